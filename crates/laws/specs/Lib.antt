@@ -1,0 +1,7 @@
+-- Definitions and laws that say nothing of the bench. A file NAME defines, and NAMELaws proves what callers use instead of the definition's text.
+pub mod Choice
+pub mod Below
+pub mod BelowLaws
+pub mod Flags
+pub mod Signed
+pub mod SignedLaws

@@ -1,0 +1,51 @@
+-- Laws of signed numbers in words of 32 and 64 bits: what proofs say of `toZ w (ofZ w z)`. Assumes nothing.
+use mathlib.Core.Path.{_≡_, refl, sym, _∙_}
+use mathlib.Core.Logic.{⊎-elim}
+use Prim.Native.Nat.{ℕ, suc, _-_, _^_, _<_, _≤_}
+use native.Mathlib.Omega.{arith}
+use borrow.Author.Needs.{needs}
+use borrow.Author.Tests.{lt-ltb, le-ltb}
+use lib.IntN.{ℤ, pos, negsuc, subℕ, _-ℤ_}
+use lib.Signed.{mag}
+use mir.Syntax.{w32, w64}
+use mir.Val.{SFits}
+use mir.Facts.{sfits-widen}
+use Rattle.laws.specs.Flags.{lt-or-ge}
+use Rattle.laws.specs.Signed.{signed}
+
+-- a number of 32 bits is one of 64
+pub widen : {z : ℤ} → SFits w32 z → SFits w64 z
+widen f = sfits-widen tt f
+
+-- the range of a call's result or of an element that was read, as a need is handed it
+pub told : (z : ℤ) → mag z < 2 ^ 31 → SFits w32 z
+told z h = record { sfits = h }
+
+pub ruleset ints = (needs, widen)
+
+-- a - b of two naturals
+pub sub-below : (a b : ℕ) → a < b → subℕ a b ≡ negsuc (b - suc a)
+sub-below a b h = rw lt-ltb
+
+pub sub-above : (a b : ℕ) → b ≤ a → subℕ a b ≡ pos (a - b)
+sub-above a b h = rw le-ltb
+
+-- the lower half of the words is itself, and the upper half is 2 ^ 32 less
+pub signed-low : (n : ℕ) → n < 2 ^ 31 → signed n ≡ pos n
+unfolding signed
+signed-low n h = rw lt-ltb
+
+pub signed-high : (n : ℕ) → 2 ^ 31 ≤ n → signed n ≡ negsuc (2 ^ 32 - suc n)
+unfolding signed
+signed-high n h = rw le-ltb
+
+pub signed-less : (n : ℕ) → 2 ^ 31 ≤ n → n < 2 ^ 32 → pos n -ℤ pos 4294967296 ≡ signed n
+signed-less n h l = sub-below n 4294967296 l ∙ sym (signed-high n h)
+
+-- what a word stands for fits 32 bits
+pub signed-fits : (n : ℕ) → n < 2 ^ 32 → SFits w32 (signed n)
+signed-fits n l =
+    ⊎-elim
+    (λ (h : n < 2 ^ 31). rw (signed-low n h) (told (pos n) h))
+    (λ (h : 2 ^ 31 ≤ n). rw (signed-high n h) (told (negsuc (2 ^ 32 - suc n)) (let k : 2 ^ 32 - suc n < 2 ^ 31 = omega arith in k)))
+    (lt-or-ge n (2 ^ 31))

@@ -1,0 +1,95 @@
+use mathlib.Core.Path.{_≡_, refl, sym, ap, _∙_}
+use mathlib.Core.Bool.{not, _||_}
+use Prim.Native.Nat.{_+_, _*_}
+use lib.Dec.{ltb}
+use lib.ListN.{length}
+use native.Mathlib.Omega.{arith}
+use borrow.Author.Tests.{lt-ltb, le-ltb, eq-eqb, ne-eqb}
+use Rattle.netlist.specs.Image.{nodes, channels, size}
+use Rattle.netlist.specs.Judge.{judge, outside}
+use Rattle.netlist.specs.Passes.{Sized}
+use borrow.Author.Needs.{needs}
+use Rattle.netlist.proofs.judge.Statement.{statement}
+use Rattle.netlist.proofs.judge.Tie as tie
+
+-- the code's tests for 2 and 3 are those of the definition
+is-2 : (c : tie.After-channels) → let img = c .before .before .before .before .args .image .now in outside 1 64 (c .before .nodes .result) || ltb 96 (c .channels .result) ≡ (outside 1 64 (nodes img) || ltb 96 (channels img))
+is-2 c = rw (c .before .nodes .ensures, c .channels .ensures)
+
+is-size : (c : tie.After-wide2) → 2 + 5 * c .before .wide .result + 5 * c .wide2 .result ≡ size (c .before .before .before .before .before .before .before .args .image .now)
+unfolding size
+is-size c =
+    let d = c .before .before .before in
+    rw (c .wide2 .ensures, c .before .wide .ensures, d .channels .ensures, d .before .nodes .ensures)
+
+returns : tie.Need-returns
+unfolding judge
+returns c = rw (lt-ltb _ _ (c .if1 .taken))
+
+nodes-requires : tie.Need-nodes-requires
+nodes-requires c κs = search needs
+
+channels-requires : tie.Need-channels-requires
+channels-requires c κs = search needs
+
+returns-2 : tie.Need-returns-2
+unfolding judge
+returns-2 c = rw (le-ltb _ _ (c .before .before .before .if1 .left), sym (is-2 (c .before)) ∙ c .if2 .taken)
+
+wide-requires : tie.Need-wide-requires
+wide-requires c κs = search needs
+
+mul-if3 : tie.Need-mul-if3
+mul-if3 c = search needs
+
+add-if3 : tie.Need-add-if3
+add-if3 c = search needs
+
+wide-requires-2 : tie.Need-wide-requires-2
+wide-requires-2 c κs = search needs
+
+mul-if3-2 : tie.Need-mul-if3-2
+mul-if3-2 c = search needs
+
+add-if3-2 : tie.Need-add-if3-2
+add-if3-2 c = search needs
+
+returns-3 : tie.Need-returns-3
+unfolding judge
+returns-3 c =
+    let w = c .before in
+    let d = w .before .before .before in
+    let img = d .before .before .before .before .args .image .now in
+    rw (le-ltb _ _ (d .before .before .if1 .left), sym (is-2 d) ∙ w .before .before .if2 .left, ne-eqb (length img) (size img) (λ e. c .if3 .taken (e ∙ sym (is-size w))))
+
+contents-requires : tie.Need-contents-requires
+contents-requires c κs =
+    let w = c .before in
+    let d = w .before .before .before in
+    let img = d .before .before .before .before .args .image .now in
+    record {
+      no-1 = le-ltb _ _ (d .before .before .if1 .left);
+      no-2 = sym (is-2 d) ∙ w .before .before .if2 .left;
+      no-3 = ap not (eq-eqb (length img) (size img) (c .if3 .left ∙ is-size w));
+    }
+
+returns-4 : tie.Need-returns-4
+returns-4 c = search needs
+
+pub judge-spec : {M : Type 1} → statement M
+judge-spec =
+    tie.close
+    (tie.spec
+    returns
+    nodes-requires
+    channels-requires
+    returns-2
+    wide-requires
+    mul-if3
+    add-if3
+    wide-requires-2
+    mul-if3-2
+    add-if3-2
+    returns-3
+    contents-requires
+    returns-4)

@@ -1,0 +1,19 @@
+use borrow.Author.Tests.{lt-ltb, le-ltb}
+use borrow.Author.Needs.{needs}
+use Rattle.netlist.proofs.passes.depths.Statement.{statement}
+use Rattle.netlist.proofs.passes.depths.Tie as tie
+
+returns : tie.Need-returns
+returns c = search needs
+
+returns-2 : tie.Need-returns-2
+returns-2 c = search needs
+
+returns-3 : tie.Need-returns-3
+returns-3 c = rw (c .before .before .before .if1 .left, c .before .before .if2 .left, lt-ltb _ _ (c .if3 .taken))
+
+returns-4 : tie.Need-returns-4
+returns-4 c = rw (c .before .before .before .if1 .left, c .before .before .if2 .left, le-ltb _ _ (c .if3 .left))
+
+pub depths-spec : {M : Type 1} → statement M
+depths-spec = tie.close (tie.spec returns returns-2 returns-3 returns-4)

@@ -1,0 +1,40 @@
+use native.Mathlib.Omega.{arith}
+use mir.Syntax.{w32, w64}
+use mir.Facts.{toZ-ofZ}
+use mir.ValLaws.{toZ-pos}
+use Rattle.laws.specs.SignedLaws.{widen, signed-low, signed-less, signed-fits}
+use borrow.Author.Needs.{needs}
+use Rattle.netlist.proofs.signed_word.Statement.{statement}
+use Rattle.netlist.proofs.signed_word.Tie as tie
+
+cast-result : tie.Need-cast-result
+cast-result c = search needs
+
+cast-result-2 : tie.Need-cast-result-2
+cast-result-2 c = search needs
+
+sub-result : tie.Need-sub-result
+sub-result c =
+    let n = c .before .args .n in
+    rw (toZ-pos w64 n (omega arith), signed-less n (c .if1 .left) (c .before .pre)) (widen (signed-fits n (c .before .pre)))
+
+cast-result-3 : tie.Need-cast-result-3
+cast-result-3 c =
+    let n = c .before .args .n in
+    let f = signed-fits n (c .before .pre) in
+    rw (toZ-pos w64 n (omega arith), signed-less n (c .if1 .left) (c .before .pre), toZ-ofZ (widen f)) f
+
+returns : tie.Need-returns
+returns c =
+    let n = c .before .args .n in
+    rw (toZ-pos w32 n (c .if1 .taken), signed-low n (c .if1 .taken))
+
+returns-2 : tie.Need-returns-2
+returns-2 c =
+    let n = c .before .args .n in
+    let f = signed-fits n (c .before .pre) in
+    rw (toZ-pos w64 n (omega arith), signed-less n (c .if1 .left) (c .before .pre), toZ-ofZ (widen f), toZ-ofZ f)
+
+pub signed-word-spec : {M : Type 1} → statement M
+signed-word-spec =
+    tie.close (tie.spec cast-result cast-result-2 sub-result cast-result-3 returns returns-2)

@@ -1,0 +1,8 @@
+-- The netlist: fields of the image, and the judge's answer.
+pub mod Image
+pub mod ImageLaws
+pub mod Judge
+pub mod Readers
+pub mod Passes
+pub mod PassesLaws
+pub mod Examples

@@ -1,0 +1,55 @@
+-- What the judge's passes hold after c channels: the equations that its loops keep.
+use mathlib.Core.Bool.{Bool, true, false, not, _||_}
+use mathlib.Core.List.{List}
+use mathlib.Core.Path.{_≡_}
+use Prim.Native.Nat.{ℕ, zero, suc, _+_, _*_, _≤_, _<_}
+use lib.Dec.{eqb, ltb}
+use lib.ListN.{length, getD, set, replicate}
+use Rattle.laws.specs.Below.{anyBelow, sumBelow}
+use Rattle.netlist.specs.declared.passes.Found.{Found}
+use Rattle.netlist.specs.declared.passes.Fed.{Fed}
+use Rattle.netlist.specs.Image.{nodes, channels, kind, to, port, stations, size, inputs}
+use Rattle.netlist.specs.Judge.{outside, badWire, badPort, badStations, badDepth}
+
+-- numbers 1 to 3 have no cause
+pub record Sized (img : List ℕ) : Type 0 where
+  pub no-1 : ltb (length img) 2 ≡ false
+  pub no-2 : (outside 1 64 (nodes img) || ltb 96 (channels img)) ≡ false
+  pub no-3 : not (eqb (length img) (size img)) ≡ false
+
+-- the channels below c lead to ports that have a place
+pub record Wired (img : List ℕ) (c : ℕ) : Type 0 where
+  pub node : (k : ℕ) → k < c → to img k < 64
+  pub input : (k : ℕ) → k < c → port img k < 3
+
+-- numbers 5, 6, 9, 10 and the sum for 11, over the channels below c
+unfoldable pub foundBelow : List ℕ → ℕ → Found
+foundBelow img c =
+    record {
+      wire = anyBelow (badWire img) c;
+      port = anyBelow (badPort img) c;
+      stations = anyBelow (badStations img) c;
+      depth = anyBelow (badDepth img) c;
+      total = sumBelow (stations img) c;
+    }
+
+-- such a record, with a bound for its sum
+pub record Passed (img : List ℕ) (c : ℕ) (found : Found) : Type 0 where
+  pub is : found ≡ foundBelow img c
+  pub bound : found .total ≤ 255 * c
+
+-- the place of port p of node n among 3 ports for each of 64 nodes
+abbrev pub place : ℕ → ℕ → ℕ
+place n p = 3 * n + p
+
+-- the ports that the channels below c feed, and whether one of them is fed twice
+unfoldable pub fedBelow : List ℕ → ℕ → Fed
+fedBelow img zero = record { twice = false; ports = replicate 192 false }
+fedBelow img (suc c) =
+    let old = fedBelow img c in
+    let at = place (to img c) (port img c) in
+    record { twice = old .twice || getD (old .ports) at false; ports = set (old .ports) at true }
+
+-- a port of node n that is not fed
+unfoldable pub misses : List ℕ → List Bool → ℕ → Bool
+misses img ports n = anyBelow (λ p. not (getD ports (place n p) false)) (inputs (kind img n))

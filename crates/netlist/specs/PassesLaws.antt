@@ -1,0 +1,88 @@
+-- What the judge's passes hold is what its definition asks, once numbers 4 to 6 have no cause. Assumes nothing.
+use mathlib.Core.Bool.{Bool, true, false, not, _&&_, _||_, or-true, or-false, true≢false}
+use mathlib.Core.List.{List}
+use mathlib.Core.Logic.{⊎-elim}
+use mathlib.Core.Path.{_≡_, refl, sym, ap, _∙_}
+use Prim.Native.Nat.{ℕ, zero, suc, _+_, _*_, _≤_, _<_}
+use native.Mathlib.Omega.{arith}
+use borrow.Author.Tests.{ltb-false, leb-false, eqb-true, eqb-false, eq-eqb, ne-eqb}
+use lib.Dec.{eqb, leb, ltb}
+use lib.ListN.{length, getD, set, replicate, length-set, length-replicate, getD-replicate}
+use lib.Seq.{getD-set-same, getD-set-other}
+use Rattle.laws.specs.Below.{anyBelow}
+use Rattle.laws.specs.BelowLaws.{any-none, any-same}
+use Rattle.laws.specs.Flags.{true-or-false, and-left, and-right, or-left, or-right}
+use Rattle.netlist.specs.Image.{nodes, channels, kind, from, to, port, inputs}
+use Rattle.netlist.specs.ImageLaws.{inputs-few}
+use Rattle.netlist.specs.Judge.{outside, feeds, badWire, badPort, fedTwice, notFed}
+use Rattle.netlist.specs.Passes.{Sized, Wired, fedBelow, misses, place}
+
+-- channel k leads to a node that is there, at one of its inputs
+pub to-there : (img : List ℕ) (c k : ℕ) → anyBelow (badWire img) c ≡ false → k < c → to img k < nodes img
+unfolding badWire
+to-there img c k e h = leb-false (nodes img) (to img k) (or-right (leb (nodes img) (from img k)) (leb (nodes img) (to img k)) (any-none (badWire img) k c e h))
+
+pub port-there : (img : List ℕ) (c k : ℕ) → anyBelow (badPort img) c ≡ false → k < c → port img k < inputs (kind img (to img k))
+unfolding badPort
+port-there img c k e h = leb-false (inputs (kind img (to img k))) (port img k) (any-none (badPort img) k c e h)
+
+pub wired : (img : List ℕ) (c : ℕ) → nodes img ≤ 64 → anyBelow (badWire img) c ≡ false → anyBelow (badPort img) c ≡ false → Wired img c
+wired img c few w p =
+    record {
+      node = λ k h. omega (arith, to-there img c k w h);
+      input = λ k h. omega (arith, port-there img c k p h, inputs-few (kind img (to img k)));
+    }
+
+-- the place of each of their ports is one of 192
+pub place-there : (img : List ℕ) (c : ℕ) → Wired img c → (k : ℕ) → k < c → place (to img k) (port img k) < 192
+place-there img c w k h = omega (arith, w .node k h, w .input k h)
+
+one-less : (img : List ℕ) (c : ℕ) → Wired img (suc c) → Wired img c
+one-less img c w = record { node = λ k h. w .node k (omega arith); input = λ k h. w .input k (omega arith) }
+
+-- a channel feeds the port whose place it marks, and no other
+feeds-here : (img : List ℕ) (n p c : ℕ) → feeds img n p c ≡ true → place n p ≡ place (to img c) (port img c)
+unfolding feeds
+feeds-here img n p c e =
+    omega (arith, eqb-true (to img c) n (and-left (eqb (to img c) n) (eqb (port img c) p) e), eqb-true (port img c) p (and-right (eqb (to img c) n) (eqb (port img c) p) e))
+
+feeds-there : (img : List ℕ) (n p c : ℕ) → p < 3 → port img c < 3 → feeds img n p c ≡ false → place n p ≡ place (to img c) (port img c) → ⊥
+unfolding feeds
+feeds-there img n p c l h e q =
+    let a : to img c ≡ n = omega arith in
+    let b : port img c ≡ p = omega arith in
+    true≢false (sym (rw (eq-eqb (to img c) n a, eq-eqb (port img c) p b)) ∙ e)
+
+ports-length : (img : List ℕ) (c : ℕ) → length (fedBelow img c .ports) ≡ 192
+unfolding fedBelow
+ports-length img zero = length-replicate 192 false
+ports-length img (suc c) = rw length-set (ports-length img c)
+
+-- a place is marked exactly if a channel feeds its port
+pub marked : (img : List ℕ) (c : ℕ) → Wired img c → (n p : ℕ) → n < 64 → p < 3 → getD (fedBelow img c .ports) (place n p) false ≡ anyBelow (feeds img n p) c
+unfolding fedBelow anyBelow
+marked img zero w n p h l = getD-replicate 192 (place n p) false false (omega arith)
+marked img (suc c) w n p h l =
+    ⊎-elim
+    (λ (e : feeds img n p c ≡ true). rw (e, or-true, feeds-here img n p c e) (getD-set-same (fedBelow img c .ports) (place (to img c) (port img c)) true false (rw ports-length (place-there img (suc c) w c (omega arith)))))
+    (λ (e : feeds img n p c ≡ false). rw (e, or-false, getD-set-other (fedBelow img c .ports) (place (to img c) (port img c)) (place n p) true false (feeds-there img n p c l (w .input c (omega arith)) e)) (marked img c (one-less img c w) n p h l))
+    (true-or-false (feeds img n p c))
+
+-- number 7
+pub twice-is : (img : List ℕ) (c : ℕ) → Wired img c → fedBelow img c .twice ≡ anyBelow (fedTwice img) c
+unfolding fedBelow anyBelow fedTwice
+twice-is img zero w = refl
+twice-is img (suc c) w =
+    rw (twice-is img c (one-less img c w), marked img c (one-less img c w) (to img c) (port img c) (w .node c (omega arith)) (w .input c (omega arith)))
+
+-- number 8
+pub misses-is : (img : List ℕ) → nodes img ≤ 64 → Wired img (channels img) → anyBelow (misses img (fedBelow img (channels img) .ports)) (nodes img) ≡ anyBelow (notFed img) (nodes img)
+unfolding misses notFed
+misses-is img few w =
+    any-same (misses img (fedBelow img (channels img) .ports)) (notFed img) (nodes img) λ n h.
+    any-same (λ p. not (getD (fedBelow img (channels img) .ports) (place n p) false)) (λ p. not (anyBelow (feeds img n p) (channels img))) (inputs (kind img n)) λ p l.
+    ap not (marked img (channels img) w n p (omega arith) (omega (arith, inputs-few (kind img n))))
+
+-- an image with no cause for 2 has at most 64 nodes
+pub few-nodes : (img : List ℕ) → Sized img → nodes img ≤ 64
+few-nodes img s = ltb-false 64 (nodes img) (or-right (ltb (nodes img) 1) (ltb 64 (nodes img)) (or-left (outside 1 64 (nodes img)) (ltb 96 (channels img)) (s .no-2)))
