@@ -1,6 +1,6 @@
 -- Laws of `allBelow`, `anyBelow` and `sumBelow`. Assumes nothing.
 use mathlib.Core.Path.{_≡_, refl, sym, ap, ap₂, _∙_}
-use mathlib.Core.Logic.{_⊎_, inl, inr, ⊎-elim}
+use mathlib.Core.Logic.{_↔_, _⊎_, ⊎-elim}
 use mathlib.Core.Bool.{Bool, true, false, not, _&&_, _||_, or-true, Bool·not-not, false≢true}
 use Prim.Native.Nat.{ℕ, zero, suc, _+_, _*_, _<_, _≤_}
 use native.Mathlib.Nat.{le-of-suc-le-suc, not-suc-le-zero, eq-or-lt-of-le, mul-suc}
@@ -58,3 +58,7 @@ pub any-same : (f g : ℕ → Bool) (n : ℕ) → ((k : ℕ) → k < n → f k �
 unfolding anyBelow
 any-same f g zero h = refl
 any-same f g (suc n) h = rw (any-same f g n (λ k l. h k (omega arith)), h n (omega arith))
+
+-- a test that fails at each number where P holds, and only there, fails at all below n exactly if P holds at all of them
+pub none-iff : {P : ℕ → Type 0} (f : ℕ → Bool) (n : ℕ) → ((k : ℕ) → (f k ≡ false) ↔ P k) → (anyBelow f n ≡ false) ↔ ((k : ℕ) → k < n → P k)
+none-iff f n iff = (λ e k h. iff k .0 (any-none f k n e h), λ h. none-any f n (λ k l. iff k .1 (h k l)))

@@ -3,19 +3,12 @@ use mathlib.Core.Bool.{Bool, true, false, not, _||_}
 use mathlib.Core.List.{List}
 use mathlib.Core.Path.{_≡_}
 use Prim.Native.Nat.{ℕ, zero, suc, _+_, _*_, _≤_, _<_}
-use lib.Dec.{eqb, ltb}
-use lib.ListN.{length, getD, set, replicate}
+use lib.ListN.{getD, set, replicate}
 use Rattle.laws.specs.Below.{anyBelow, sumBelow}
 use Rattle.netlist.specs.declared.passes.Found.{Found}
 use Rattle.netlist.specs.declared.passes.Fed.{Fed}
-use Rattle.netlist.specs.Image.{nodes, channels, kind, to, port, stations, size, inputs}
-use Rattle.netlist.specs.Judge.{outside, badWire, badPort, badStations, badDepth}
-
--- numbers 1 to 3 have no cause
-pub record Sized (img : List ℕ) : Type 0 where
-  pub no-1 : ltb (length img) 2 ≡ false
-  pub no-2 : (outside 1 64 (nodes img) || ltb 96 (channels img)) ≡ false
-  pub no-3 : not (eqb (length img) (size img)) ≡ false
+use Rattle.netlist.specs.Image.{kind, to, port, stations, inputs}
+use Rattle.netlist.specs.Judge.{badWire, badPort, badStations, badDepth}
 
 -- the channels below c lead to ports that have a place
 pub record Wired (img : List ℕ) (c : ℕ) : Type 0 where

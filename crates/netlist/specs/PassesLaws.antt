@@ -5,32 +5,23 @@ use mathlib.Core.Logic.{⊎-elim}
 use mathlib.Core.Path.{_≡_, refl, sym, ap, _∙_}
 use Prim.Native.Nat.{ℕ, zero, suc, _+_, _*_, _≤_, _<_}
 use native.Mathlib.Omega.{arith}
-use borrow.Author.Tests.{ltb-false, leb-false, eqb-true, eqb-false, eq-eqb, ne-eqb}
-use lib.Dec.{eqb, leb, ltb}
 use lib.ListN.{length, getD, set, replicate, length-set, length-replicate, getD-replicate}
 use lib.Seq.{getD-set-same, getD-set-other}
 use Rattle.laws.specs.Below.{anyBelow}
-use Rattle.laws.specs.BelowLaws.{any-none, any-same}
-use Rattle.laws.specs.Flags.{true-or-false, and-left, and-right, or-left, or-right}
-use Rattle.netlist.specs.Image.{nodes, channels, kind, from, to, port, inputs}
+use Rattle.laws.specs.BelowLaws.{none-iff, any-same}
+use Rattle.laws.specs.Flags.{true-or-false}
+use Rattle.netlist.specs.Image.{nodes, channels, kind, to, port, inputs}
 use Rattle.netlist.specs.ImageLaws.{inputs-few}
-use Rattle.netlist.specs.Judge.{outside, feeds, badWire, badPort, fedTwice, notFed}
-use Rattle.netlist.specs.Passes.{Sized, Wired, fedBelow, misses, place}
+use Rattle.netlist.specs.Judge.{feeds, badWire, badPort, fedTwice, notFed}
+use Rattle.netlist.specs.JudgeLaws.{wire-ok, port-ok, feeds-ok}
+use Rattle.netlist.specs.Passes.{Wired, fedBelow, misses, place}
 
--- channel k leads to a node that is there, at one of its inputs
-pub to-there : (img : List ℕ) (c k : ℕ) → anyBelow (badWire img) c ≡ false → k < c → to img k < nodes img
-unfolding badWire
-to-there img c k e h = leb-false (nodes img) (to img k) (or-right (leb (nodes img) (from img k)) (leb (nodes img) (to img k)) (any-none (badWire img) k c e h))
-
-pub port-there : (img : List ℕ) (c k : ℕ) → anyBelow (badPort img) c ≡ false → k < c → port img k < inputs (kind img (to img k))
-unfolding badPort
-port-there img c k e h = leb-false (inputs (kind img (to img k))) (port img k) (any-none (badPort img) k c e h)
-
+-- channels that lead to nodes and inputs that are there
 pub wired : (img : List ℕ) (c : ℕ) → nodes img ≤ 64 → anyBelow (badWire img) c ≡ false → anyBelow (badPort img) c ≡ false → Wired img c
 wired img c few w p =
     record {
-      node = λ k h. omega (arith, to-there img c k w h);
-      input = λ k h. omega (arith, port-there img c k p h, inputs-few (kind img (to img k)));
+      node = λ k h. omega (arith, none-iff (badWire img) c (wire-ok img) .0 w k h);
+      input = λ k h. omega (arith, none-iff (badPort img) c (port-ok img) .0 p k h, inputs-few (kind img (to img k)));
     }
 
 -- the place of each of their ports is one of 192
@@ -42,16 +33,10 @@ one-less img c w = record { node = λ k h. w .node k (omega arith); input = λ k
 
 -- a channel feeds the port whose place it marks, and no other
 feeds-here : (img : List ℕ) (n p c : ℕ) → feeds img n p c ≡ true → place n p ≡ place (to img c) (port img c)
-unfolding feeds
-feeds-here img n p c e =
-    omega (arith, eqb-true (to img c) n (and-left (eqb (to img c) n) (eqb (port img c) p) e), eqb-true (port img c) p (and-right (eqb (to img c) n) (eqb (port img c) p) e))
+feeds-here img n p c e = omega (arith, feeds-ok img n p c .0 e)
 
 feeds-there : (img : List ℕ) (n p c : ℕ) → p < 3 → port img c < 3 → feeds img n p c ≡ false → place n p ≡ place (to img c) (port img c) → ⊥
-unfolding feeds
-feeds-there img n p c l h e q =
-    let a : to img c ≡ n = omega arith in
-    let b : port img c ≡ p = omega arith in
-    true≢false (sym (rw (eq-eqb (to img c) n a, eq-eqb (port img c) p b)) ∙ e)
+feeds-there img n p c l h e q = true≢false (sym (feeds-ok img n p c .1 (omega arith, omega arith)) ∙ e)
 
 ports-length : (img : List ℕ) (c : ℕ) → length (fedBelow img c .ports) ≡ 192
 unfolding fedBelow
@@ -82,7 +67,3 @@ misses-is img few w =
     any-same (misses img (fedBelow img (channels img) .ports)) (notFed img) (nodes img) λ n h.
     any-same (λ p. not (getD (fedBelow img (channels img) .ports) (place n p) false)) (λ p. not (anyBelow (feeds img n p) (channels img))) (inputs (kind img n)) λ p l.
     ap not (marked img (channels img) w n p (omega arith) (omega (arith, inputs-few (kind img n))))
-
--- an image with no cause for 2 has at most 64 nodes
-pub few-nodes : (img : List ℕ) → Sized img → nodes img ≤ 64
-few-nodes img s = ltb-false 64 (nodes img) (or-right (ltb (nodes img) 1) (ltb 64 (nodes img)) (or-left (outside 1 64 (nodes img)) (ltb 96 (channels img)) (s .no-2)))

@@ -13,7 +13,8 @@ ghost use Rattle.laws.specs.Choice.{_if_else_};
 ghost use Rattle.laws.specs.Below.{anyBelow};
 ghost use Rattle.netlist.specs.Image.{nodes, channels, kind};
 ghost use Rattle.netlist.specs.Judge.{badKind, judge};
-ghost use Rattle.netlist.specs.Passes.{Sized, Wired, foundBelow, Passed, fedBelow, misses};
+ghost use Rattle.netlist.specs.Clear.{Sized};
+ghost use Rattle.netlist.specs.Passes.{Wired, foundBelow, Passed, fedBelow, misses};
 
 // What a pass over the channels finds: whether number 5, 6, 9 or 10 has a cause, and all stations.
 pub struct Found {

@@ -7,7 +7,7 @@ use native.Mathlib.Omega.{arith}
 use borrow.Author.Tests.{lt-ltb, le-ltb, eq-eqb, ne-eqb}
 use Rattle.netlist.specs.Image.{nodes, channels, size}
 use Rattle.netlist.specs.Judge.{judge, outside}
-use Rattle.netlist.specs.Passes.{Sized}
+use Rattle.netlist.specs.Clear.{Sized}
 use borrow.Author.Needs.{needs}
 use Rattle.netlist.proofs.judge.Statement.{statement}
 use Rattle.netlist.proofs.judge.Tie as tie

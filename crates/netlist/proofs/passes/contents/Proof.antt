@@ -5,8 +5,9 @@ use Prim.Native.Nat.{ℕ, _≤_}
 use Rattle.laws.specs.Below.{anyBelow}
 use Rattle.netlist.specs.Image.{nodes, channels}
 use Rattle.netlist.specs.Judge.{judge, badKind, badWire, badPort, fedTwice, notFed}
+use Rattle.netlist.specs.JudgeLaws.{sizes-ok}
 use Rattle.netlist.specs.Passes.{Wired, foundBelow}
-use Rattle.netlist.specs.PassesLaws.{few-nodes, wired, twice-is, misses-is}
+use Rattle.netlist.specs.PassesLaws.{wired, twice-is, misses-is}
 use borrow.Author.Needs.{needs}
 use Rattle.netlist.proofs.passes.contents.Statement.{statement}
 use Rattle.netlist.proofs.passes.contents.Tie as tie
@@ -27,7 +28,7 @@ no-6 c = sym (ap (λ f. f .port) (c .before .before .scan-channels .ensures)) �
 places : (c : tie.Else3) → let img = c .before .before .before .before .before .before .args .image .now in Wired img (channels img)
 places c =
     let s = c .before .before .before .before .before .before in
-    wired (s .args .image .now) (channels (s .args .image .now)) (few-nodes (s .args .image .now) (s .pre)) (no-5 (c .before)) (no-6 c)
+    wired (s .args .image .now) (channels (s .args .image .now)) (sizes-ok (s .args .image .now) .0 (s .pre .no-2) .1) (no-5 (c .before)) (no-6 c)
 
 is-7 : (c : tie.After-feed-ports) → let img = c .before .before .before .before .before .before .before .args .image .now in c .feed-ports .result .twice ≡ anyBelow (fedTwice img) (channels img)
 is-7 c =
@@ -38,7 +39,7 @@ is-8 : (c : tie.After-scan-ports) → let img = c .before .before .before .befor
 is-8 c =
     let p = c .before .before .before in
     let s = p .before .before .before .before .before .before .before in
-    (rw (p .feed-ports .ensures) at (c .scan-ports .ensures)) ∙ misses-is (s .args .image .now) (few-nodes (s .args .image .now) (s .pre)) (places (p .before))
+    (rw (p .feed-ports .ensures) at (c .scan-ports .ensures)) ∙ misses-is (s .args .image .now) (sizes-ok (s .args .image .now) .0 (s .pre .no-2) .1) (places (p .before))
 
 scan-kinds-requires : tie.Need-scan-kinds-requires
 scan-kinds-requires c κs = search needs
@@ -77,7 +78,7 @@ returns-4 c =
 scan-ports-requires : tie.Need-scan-ports-requires
 scan-ports-requires c κs =
     let s = c .before .before .before .before .before .before .before .before .before in
-    few-nodes (s .args .image .now) (s .pre)
+    sizes-ok (s .args .image .now) .0 (s .pre .no-2) .1
 
 returns-5 : tie.Need-returns-5
 unfolding judge

@@ -1,0 +1,60 @@
+-- What it says that one of the judge's tests fails at a node or a channel, both ways. Assumes nothing.
+use mathlib.Core.Bool.{Bool, true, false, not, _||_}
+use mathlib.Core.List.{List}
+use mathlib.Core.Logic.{_↔_}
+use mathlib.Core.Path.{_≡_, ap}
+use Prim.Native.Nat.{ℕ, _<_, _≤_}
+use borrow.Author.Tests.{ltb-false, leb-false, le-ltb, lt-leb, eqb-true, eq-eqb, not-false}
+use lib.Dec.{eqb, leb, ltb}
+use lib.ListN.{length}
+use Rattle.laws.specs.Flags.{and-left, and-right, or-left, or-right}
+use Rattle.netlist.specs.Image.{nodes, channels, kind, from, to, port, stations, depth, size, inputs}
+use Rattle.netlist.specs.Judge.{outside, feeds, badKind, badWire, badPort, badStations, badDepth}
+
+-- x is from a to b
+pub inside : (a b x : ℕ) → (outside a b x ≡ false) ↔ ((a ≤ x) × (x ≤ b))
+inside a b x =
+    (λ e. (ltb-false x a (or-left (ltb x a) (ltb b x) e), ltb-false b x (or-right (ltb x a) (ltb b x) e)), λ h. rw (le-ltb x a (h .0), le-ltb b x (h .1)))
+
+module _ (img : List ℕ) where
+  pub sizes-ok : ((outside 1 64 (nodes img) || ltb 96 (channels img)) ≡ false) ↔ ((1 ≤ nodes img) × (nodes img ≤ 64) × (channels img ≤ 96))
+  sizes-ok =
+      (λ e.
+      let h = inside 1 64 (nodes img) .0 (or-left (outside 1 64 (nodes img)) (ltb 96 (channels img)) e) in
+      (h .0, h .1, ltb-false 96 (channels img) (or-right (outside 1 64 (nodes img)) (ltb 96 (channels img)) e)),
+      λ h. rw (inside 1 64 (nodes img) .1 (h .0, h .1), le-ltb 96 (channels img) (h .2)))
+
+  pub length-ok : (not (eqb (length img) (size img)) ≡ false) ↔ (length img ≡ size img)
+  length-ok = (λ e. eqb-true (length img) (size img) (not-false (eqb (length img) (size img)) e), λ q. ap not (eq-eqb (length img) (size img) q))
+
+  pub kind-ok : (n : ℕ) → (badKind img n ≡ false) ↔ ((1 ≤ kind img n) × (kind img n ≤ 9))
+  unfolding badKind
+  kind-ok n = inside 1 9 (kind img n)
+
+  pub wire-ok : (c : ℕ) → (badWire img c ≡ false) ↔ ((from img c < nodes img) × (to img c < nodes img))
+  unfolding badWire
+  wire-ok c =
+      let f = leb (nodes img) (from img c) in
+      let t = leb (nodes img) (to img c) in
+      (λ e. (leb-false (nodes img) (from img c) (or-left f t e), leb-false (nodes img) (to img c) (or-right f t e)),
+      λ h. rw (lt-leb (nodes img) (from img c) (h .0), lt-leb (nodes img) (to img c) (h .1)))
+
+  pub port-ok : (c : ℕ) → (badPort img c ≡ false) ↔ (port img c < inputs (kind img (to img c)))
+  unfolding badPort
+  port-ok c = (leb-false (inputs (kind img (to img c))) (port img c), lt-leb (inputs (kind img (to img c))) (port img c))
+
+  -- channel c feeds port p of node n
+  pub feeds-ok : (n p c : ℕ) → (feeds img n p c ≡ true) ↔ ((to img c ≡ n) × (port img c ≡ p))
+  unfolding feeds
+  feeds-ok n p c =
+      let t = eqb (to img c) n in
+      let q = eqb (port img c) p in
+      (λ e. (eqb-true (to img c) n (and-left t q e), eqb-true (port img c) p (and-right t q e)), λ h. rw (eq-eqb (to img c) n (h .0), eq-eqb (port img c) p (h .1)))
+
+  pub stations-ok : (c : ℕ) → (badStations img c ≡ false) ↔ (stations img c ≤ 8)
+  unfolding badStations
+  stations-ok c = (ltb-false 8 (stations img c), le-ltb 8 (stations img c))
+
+  pub depth-ok : (c : ℕ) → (badDepth img c ≡ false) ↔ ((1 ≤ depth img c) × (depth img c ≤ 8))
+  unfolding badDepth
+  depth-ok c = inside 1 8 (depth img c)
