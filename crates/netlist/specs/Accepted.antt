@@ -62,7 +62,7 @@ accepted img e =
       fed = λ n p h l. feeder img n p (fed-if img (s .no-8) n p h l);
       rows = none-iff (badStations img) (channels img) (stations-ok img) .0 (s .no-9);
       queues = none-iff (badDepth img) (channels img) (depth-ok img) .0 (s .no-10);
-      few-stations = ltb-false 256 (sumBelow (stations img) (channels img)) (s .no-11)
+      few-stations = ltb-false 256 (sumBelow (stations img) (channels img)) (s .no-11);
     }
 
 -- and an image that has them is accepted
@@ -72,11 +72,11 @@ accepts img a =
     unclear img
     record {
       sized =
-        record {
-          no-1 = le-ltb (length img) 2 (omega (arith, a .whole));
-          no-2 = sizes-ok img .1 (a .some-nodes, a .few-nodes, a .few-channels);
-          no-3 = length-ok img .1 (a .whole)
-        };
+          record {
+            no-1 = le-ltb (length img) 2 (omega (arith, a .whole));
+            no-2 = sizes-ok img .1 (a .some-nodes, a .few-nodes, a .few-channels);
+            no-3 = length-ok img .1 (a .whole);
+          };
       no-4 = none-iff (badKind img) (nodes img) (kind-ok img) .1 (a .kinds);
       no-5 = none-iff (badWire img) (channels img) (wire-ok img) .1 (a .wires);
       no-6 = none-iff (badPort img) (channels img) (port-ok img) .1 (a .ports);
@@ -84,5 +84,5 @@ accepts img a =
       no-8 = if-fed img λ n p h l. let f = a .fed n p h l in any-hit (feeds img n p) (f .channel) (channels img) (f .there) (feeds-ok img n p (f .channel) .1 (f .node, f .input));
       no-9 = none-iff (badStations img) (channels img) (stations-ok img) .1 (a .rows);
       no-10 = none-iff (badDepth img) (channels img) (depth-ok img) .1 (a .queues);
-      no-11 = le-ltb 256 (sumBelow (stations img) (channels img)) (a .few-stations)
+      no-11 = le-ltb 256 (sumBelow (stations img) (channels img)) (a .few-stations);
     }

@@ -57,7 +57,7 @@ clear img e =
       no-8 = h8 .0;
       no-9 = h9 .0;
       no-10 = h10 .0;
-      no-11 = h11 .0
+      no-11 = h11 .0;
     }
 
 pub unclear : (img : List ℕ) → Clear img → judge img ≡ 0

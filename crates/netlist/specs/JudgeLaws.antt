@@ -18,11 +18,12 @@ inside a b x =
 
 module _ (img : List ℕ) where
   pub sizes-ok : ((outside 1 64 (nodes img) || ltb 96 (channels img)) ≡ false) ↔ ((1 ≤ nodes img) × (nodes img ≤ 64) × (channels img ≤ 96))
-  sizes-ok =
-      (λ e.
-      let h = inside 1 64 (nodes img) .0 (or-left (outside 1 64 (nodes img)) (ltb 96 (channels img)) e) in
-      (h .0, h .1, ltb-false 96 (channels img) (or-right (outside 1 64 (nodes img)) (ltb 96 (channels img)) e)),
-      λ h. rw (inside 1 64 (nodes img) .1 (h .0, h .1), le-ltb 96 (channels img) (h .2)))
+  sizes-ok = (
+    λ e.
+        let h = inside 1 64 (nodes img) .0 (or-left (outside 1 64 (nodes img)) (ltb 96 (channels img)) e) in
+        (h .0, h .1, ltb-false 96 (channels img) (or-right (outside 1 64 (nodes img)) (ltb 96 (channels img)) e)),
+    λ h. rw (inside 1 64 (nodes img) .1 (h .0, h .1), le-ltb 96 (channels img) (h .2)),
+  )
 
   pub length-ok : (not (eqb (length img) (size img)) ≡ false) ↔ (length img ≡ size img)
   length-ok = (λ e. eqb-true (length img) (size img) (not-false (eqb (length img) (size img)) e), λ q. ap not (eq-eqb (length img) (size img) q))
@@ -35,9 +36,10 @@ module _ (img : List ℕ) where
   unfolding badWire
   wire-ok c =
       let f = leb (nodes img) (from img c) in
-      let t = leb (nodes img) (to img c) in
-      (λ e. (leb-false (nodes img) (from img c) (or-left f t e), leb-false (nodes img) (to img c) (or-right f t e)),
-      λ h. rw (lt-leb (nodes img) (from img c) (h .0), lt-leb (nodes img) (to img c) (h .1)))
+      let t = leb (nodes img) (to img c) in (
+        λ e. (leb-false (nodes img) (from img c) (or-left f t e), leb-false (nodes img) (to img c) (or-right f t e)),
+        λ h. rw (lt-leb (nodes img) (from img c) (h .0), lt-leb (nodes img) (to img c) (h .1)),
+      )
 
   pub port-ok : (c : ℕ) → (badPort img c ≡ false) ↔ (port img c < inputs (kind img (to img c)))
   unfolding badPort

@@ -8,4 +8,5 @@ pub mod Readers
 pub mod Passes
 pub mod PassesLaws
 pub mod Accepted
+pub mod Head
 pub mod Examples
