@@ -1,0 +1,3 @@
+-- What is said of an input.
+pub mod Input
+pub mod InputLaws
