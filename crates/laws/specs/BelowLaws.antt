@@ -1,17 +1,13 @@
 -- Laws of `allBelow`, `anyBelow` and `sumBelow`. Assumes nothing.
-use mathlib.Core.Path.{_≡_, refl, sym, ap, ap₂, _∙_}
-use mathlib.Core.Logic.{_↔_, _⊎_, ⊎-elim}
-use mathlib.Core.Bool.{Bool, true, false, not, _&&_, _||_, or-true, Bool·not-not, false≢true}
-use Prim.Native.Nat.{ℕ, zero, suc, _+_, _*_, _<_, _≤_}
-use native.Mathlib.Nat.{le-of-suc-le-suc, not-suc-le-zero, eq-or-lt-of-le, mul-suc}
+use mathlib.Core.Path.{_≡_, refl, sym, _∙_}
+use mathlib.Core.Logic.{_↔_, ⊎-elim}
+use mathlib.Core.Bool.{Bool, true, false, not, or-true, Bool·not-not, false≢true}
+use Prim.Native.Nat.{ℕ, zero, suc, _<_}
+use native.Mathlib.Nat.{not-suc-le-zero}
 use native.Mathlib.Omega.{arith}
-use Rattle.laws.specs.Below.{allBelow, anyBelow, sumBelow}
+use Rattle.laws.specs.Below.{allBelow, anyBelow}
 use borrow.Author.Tests.{not-true, not-false}
-use Rattle.laws.specs.Flags.{true-or-false, or-left, or-right, not-or}
-
--- the numbers below suc n are those below n, and n
-below-suc : {k n : ℕ} → k < suc n → (k ≡ n) ⊎ (k < n)
-below-suc h = eq-or-lt-of-le (le-of-suc-le-suc h)
+use Rattle.laws.specs.Cases.{true-or-false, or-left, or-right, not-or, below-suc}
 
 -- one hit is enough
 pub any-hit : (f : ℕ → Bool) (k n : ℕ) → k < n → f k ≡ true → anyBelow f n ≡ true

@@ -2,6 +2,9 @@
 pub mod Choice
 pub mod Below
 pub mod BelowLaws
-pub mod Flags
+pub mod Cases
+pub mod Table
+pub mod TableLaws
 pub mod Signed
 pub mod SignedLaws
+pub mod Examples

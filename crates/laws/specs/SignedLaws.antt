@@ -1,5 +1,5 @@
 -- Laws of signed numbers in words of 32 and 64 bits: what proofs say of `toZ w (ofZ w z)`. Assumes nothing.
-use mathlib.Core.Path.{_≡_, refl, sym, _∙_}
+use mathlib.Core.Path.{_≡_, sym, _∙_}
 use mathlib.Core.Logic.{⊎-elim}
 use Prim.Native.Nat.{ℕ, suc, _-_, _^_, _<_, _≤_}
 use native.Mathlib.Omega.{arith}
@@ -10,7 +10,7 @@ use lib.Signed.{mag}
 use mir.Syntax.{w32, w64}
 use mir.Val.{SFits}
 use mir.Facts.{sfits-widen}
-use Rattle.laws.specs.Flags.{lt-or-ge}
+use Rattle.laws.specs.Cases.{lt-or-ge}
 use Rattle.laws.specs.Signed.{signed}
 
 -- a number of 32 bits is one of 64

@@ -1,8 +1,8 @@
 -- An input of any length is judged by its first 803 bytes: no image is longer than 802, so what follows changes nothing.
-use mathlib.Core.Bool.{Bool, true, false, _||_}
+use mathlib.Core.Bool.{true, false, _||_}
 use mathlib.Core.List.{List}
 use mathlib.Core.Logic.{⊎-elim}
-use mathlib.Core.Path.{_≡_, refl, sym, ap, _∙_}
+use mathlib.Core.Path.{_≡_, sym, ap, _∙_}
 use Prim.Native.Nat.{ℕ, _<_, _≤_}
 use native.Mathlib.Omega.{arith}
 use borrow.Author.Tests.{le-ltb, ne-eqb}
@@ -10,7 +10,7 @@ use lib.Dec.{ltb}
 use lib.ListN.{length, take}
 use lib.Seq.{getD-take, take-all, length-take-le}
 use Rattle.laws.specs.Choice.{_if_else_}
-use Rattle.laws.specs.Flags.{true-or-false, lt-or-ge}
+use Rattle.laws.specs.Cases.{true-or-false, lt-or-ge}
 use Rattle.netlist.specs.Image.{nodes, channels, size}
 use Rattle.netlist.specs.Judge.{judge, outside}
 use Rattle.netlist.specs.JudgeLaws.{sizes-ok}

@@ -17,11 +17,11 @@ unfoldable pub kind : List ℕ → ℕ → ℕ
 kind img n = getD img (2 + n) 0
 
 -- "and N parameters of 4 bytes, signed two's complement, low byte first."
-abbrev pub word : List ℕ → ℕ → ℕ
-word img at = getD img at 0 + 2 ^ 8 * getD img (at + 1) 0 + 2 ^ 16 * getD img (at + 2) 0 + 2 ^ 24 * getD img (at + 3) 0
+abbrev pub fourBytes : List ℕ → ℕ → ℕ
+fourBytes img at = getD img at 0 + 2 ^ 8 * getD img (at + 1) 0 + 2 ^ 16 * getD img (at + 2) 0 + 2 ^ 24 * getD img (at + 3) 0
 
 unfoldable pub parameter : List ℕ → ℕ → ℤ
-parameter img n = signed (word img (2 + nodes img + 4 * n))
+parameter img n = signed (fourBytes img (2 + nodes img + 4 * n))
 
 -- "Then two parallel arrays for channels: C wires of 3 bytes (from node, to node, input port),"
 unfoldable pub wire : List ℕ → ℕ → ℕ

@@ -9,7 +9,7 @@ use lib.ListN.{List·getD-eq-default}
 use borrow.Author.Tests.{leb-true}
 use Rattle.laws.specs.Below.{allBelow}
 use Rattle.laws.specs.BelowLaws.{all-at}
-use Rattle.laws.specs.Flags.{lt-or-ge}
+use Rattle.laws.specs.Cases.{lt-or-ge}
 use Rattle.netlist.specs.Image.{inputs}
 
 -- a number that is no kind has no inputs

@@ -1,7 +1,7 @@
 -- The judge: "Order: 1 to 11 rising, each over the whole image."
 use mathlib.Core.Bool.{Bool, not, _&&_, _||_}
 use mathlib.Core.List.{List}
-use Prim.Native.Nat.{ℕ, _+_}
+use Prim.Native.Nat.{ℕ}
 use lib.Dec.{eqb, leb, ltb}
 use lib.ListN.{length}
 use Rattle.laws.specs.Below.{anyBelow, sumBelow}

@@ -1,5 +1,5 @@
 -- What it says that one of the judge's tests fails at a node or a channel, both ways. Assumes nothing.
-use mathlib.Core.Bool.{Bool, true, false, not, _||_}
+use mathlib.Core.Bool.{true, false, not, _||_}
 use mathlib.Core.List.{List}
 use mathlib.Core.Logic.{_↔_}
 use mathlib.Core.Path.{_≡_, ap}
@@ -7,7 +7,7 @@ use Prim.Native.Nat.{ℕ, _<_, _≤_}
 use borrow.Author.Tests.{ltb-false, leb-false, le-ltb, lt-leb, eqb-true, eq-eqb, not-false}
 use lib.Dec.{eqb, leb, ltb}
 use lib.ListN.{length}
-use Rattle.laws.specs.Flags.{and-left, and-right, or-left, or-right}
+use Rattle.laws.specs.Cases.{and-left, and-right, or-left, or-right}
 use Rattle.netlist.specs.Image.{nodes, channels, kind, from, to, port, stations, depth, size, inputs}
 use Rattle.netlist.specs.Judge.{outside, feeds, badKind, badWire, badPort, badStations, badDepth}
 

@@ -1,15 +1,15 @@
 -- What the judge's passes hold is what its definition asks, once numbers 4 to 6 have no cause. Assumes nothing.
-use mathlib.Core.Bool.{Bool, true, false, not, _&&_, _||_, or-true, or-false, true≢false}
+use mathlib.Core.Bool.{true, false, not, or-true, or-false, true≢false}
 use mathlib.Core.List.{List}
 use mathlib.Core.Logic.{⊎-elim}
 use mathlib.Core.Path.{_≡_, refl, sym, ap, _∙_}
-use Prim.Native.Nat.{ℕ, zero, suc, _+_, _*_, _≤_, _<_}
+use Prim.Native.Nat.{ℕ, zero, suc, _≤_, _<_}
 use native.Mathlib.Omega.{arith}
-use lib.ListN.{length, getD, set, replicate, length-set, length-replicate, getD-replicate}
+use lib.ListN.{length, getD, length-set, length-replicate, getD-replicate}
 use lib.Seq.{getD-set-same, getD-set-other}
 use Rattle.laws.specs.Below.{anyBelow}
 use Rattle.laws.specs.BelowLaws.{none-iff, any-same}
-use Rattle.laws.specs.Flags.{true-or-false}
+use Rattle.laws.specs.Cases.{true-or-false}
 use Rattle.netlist.specs.Image.{nodes, channels, kind, to, port, inputs}
 use Rattle.netlist.specs.ImageLaws.{inputs-few}
 use Rattle.netlist.specs.Judge.{feeds, badWire, badPort, fedTwice, notFed}

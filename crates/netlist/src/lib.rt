@@ -5,7 +5,7 @@ ghost use mathlib.Core.Path.{_≡_};
 ghost use Prim.Native.Nat.{_+_, _*_, _^_, _<_};
 ghost use lib.ListN.{getD};
 ghost use Rattle.laws.specs.Signed.{signed};
-ghost use Rattle.netlist.specs.Image.{nodes, channels, word, inputs};
+ghost use Rattle.netlist.specs.Image.{nodes, channels, fourBytes, inputs};
 ghost use Rattle.netlist.specs.Judge.{judge};
 ghost use Rattle.netlist.specs.Readers.{coreAt, channelAt};
 
@@ -61,9 +61,9 @@ fn joined(a: u8, b: u8, c: u8, d: u8) -> u64
 }
 
 // The four bytes at a place as such a number.
-fn word_at(image: &[u8], at: usize) -> u64
+fn four_bytes(image: &[u8], at: usize) -> u64
     requires { ⌜ at < 2 ^ 32 ⌝ }
-    ensures { λ r. ⌜ (r ≡ word (now (image .entry)) at) × (r < 2 ^ 32) ⌝ }
+    ensures { λ r. ⌜ (r ≡ fourBytes (now (image .entry)) at) × (r < 2 ^ 32) ⌝ }
 {
     joined(
         byte_at(image, at),
@@ -74,7 +74,7 @@ fn word_at(image: &[u8], at: usize) -> u64
 }
 
 // A number below 2^32 as the signed number of the same 32 bits.
-fn signed_word(n: u64) -> i32
+fn as_signed(n: u64) -> i32
     requires { ⌜ n < 2 ^ 32 ⌝ }
     ensures { λ r. ⌜ r ≡ signed n ⌝ }
 {
@@ -90,10 +90,10 @@ pub fn core_at(image: &[u8], n: u8) -> Core
     ensures { λ r. ⌜ r ≡ coreAt (now (image .entry)) n ⌝ }
 {
     let i = wide(n);
-    let word = word_at(image, 2 + wide(nodes(image)) + 4 * i);
+    let parameter = four_bytes(image, 2 + wide(nodes(image)) + 4 * i);
     Core {
         kind: byte_at(image, 2 + i),
-        parameter: signed_word(word),
+        parameter: as_signed(parameter),
     }
 }
 

@@ -1,6 +1,7 @@
-use Prim.Native.Nat.{_+_, _-_, _≤_}
+-- `input::read_to_end` meets its contract. The invariant: what was read lies within the buffer, which keeps its length. Assumes nothing.
 use mathlib.Core.Bool.{not}
 use mathlib.Core.Path.{_≡_, refl, _∙_}
+use Prim.Native.Nat.{_+_, _-_, _≤_}
 use native.Mathlib.Omega.{arith}
 use lib.ListN.{length}
 use Rattle.input.specs.InputLaws.{read-of}

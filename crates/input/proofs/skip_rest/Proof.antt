@@ -1,3 +1,4 @@
+-- `input::skip_rest` meets its contract. The invariant: a read brings at most 65,536 bytes. Assumes nothing.
 use Prim.Native.Nat.{_*_, _-_, _≤_}
 use native.Mathlib.Omega.{arith}
 use Rattle.input.proofs.skip_rest.Statement.{statement}

@@ -1,3 +1,4 @@
+-- `judge_edges::with_nodes` is safe and ends. Assumes nothing.
 use Prim.Native.Nat.{_-_, _≤_}
 use native.Mathlib.Omega.{arith}
 use Rattle.judge_edges.proofs.with_nodes.Statement.{statement}

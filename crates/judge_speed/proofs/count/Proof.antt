@@ -1,5 +1,6 @@
-use Prim.Native.Nat.{_-_, _≤_}
+-- `judge_speed::count` is safe and ends. The invariant: at most one is counted a turn. Assumes nothing.
 use mathlib.Core.Path.{_≡_, refl, _∙_}
+use Prim.Native.Nat.{_-_, _≤_}
 use native.Mathlib.Omega.{arith}
 use Rattle.judge_speed.proofs.count.Statement.{statement}
 use Rattle.judge_speed.proofs.count.Tie as tie

@@ -1,5 +1,6 @@
-use lib.ListN.{List·getD-eq-default}
+-- `netlist::byte_at` meets its contract: past the end a list's entry is the default. Assumes nothing.
 use borrow.Author.Needs.{needs}
+use lib.ListN.{List·getD-eq-default}
 use Rattle.netlist.proofs.byte_at.Statement.{statement}
 use Rattle.netlist.proofs.byte_at.Tie as tie
 

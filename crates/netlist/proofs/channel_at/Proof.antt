@@ -1,6 +1,7 @@
+-- `netlist::channel_at` meets its contract: each field is the byte at its place. Assumes nothing.
+use borrow.Author.Needs.{needs}
 use Rattle.netlist.specs.Image.{wire, depths, from, to, port, stations, depth}
 use Rattle.netlist.specs.Readers.{channelAt}
-use borrow.Author.Needs.{needs}
 use Rattle.netlist.proofs.channel_at.Statement.{statement}
 use Rattle.netlist.proofs.channel_at.Tie as tie
 

@@ -1,5 +1,6 @@
-use Rattle.netlist.specs.Image.{channels}
+-- `netlist::channels` meets its contract, by the definition's text. Assumes nothing.
 use borrow.Author.Needs.{needs}
+use Rattle.netlist.specs.Image.{channels}
 use Rattle.netlist.proofs.channels.Statement.{statement}
 use Rattle.netlist.proofs.channels.Tie as tie
 

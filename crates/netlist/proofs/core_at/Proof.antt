@@ -1,8 +1,9 @@
-use Rattle.netlist.specs.Image.{kind, parameter, nodes}
-use Rattle.netlist.specs.Readers.{coreAt}
+-- `netlist::core_at` meets its contract: each field is the byte or the word at its place. Assumes nothing.
+use borrow.Author.Needs.{needs}
 use mir.Facts.{toZ-ofZ}
 use Rattle.laws.specs.SignedLaws.{told}
-use borrow.Author.Needs.{needs}
+use Rattle.netlist.specs.Image.{kind, parameter}
+use Rattle.netlist.specs.Readers.{coreAt}
 use Rattle.netlist.proofs.core_at.Statement.{statement}
 use Rattle.netlist.proofs.core_at.Tie as tie
 
@@ -15,17 +16,17 @@ nodes-requires c κs = search needs
 wide-requires-2 : tie.Need-wide-requires-2
 wide-requires-2 c κs = search needs
 
-add-word-at : tie.Need-add-word-at
-add-word-at c = search needs
+add-four-bytes : tie.Need-add-four-bytes
+add-four-bytes c = search needs
 
-mul-word-at : tie.Need-mul-word-at
-mul-word-at c = search needs
+mul-four-bytes : tie.Need-mul-four-bytes
+mul-four-bytes c = search needs
 
-add-word-at-2 : tie.Need-add-word-at-2
-add-word-at-2 c = search needs
+add-four-bytes-2 : tie.Need-add-four-bytes-2
+add-four-bytes-2 c = search needs
 
-word-at-requires : tie.Need-word-at-requires
-word-at-requires c κs = search needs
+four-bytes-requires : tie.Need-four-bytes-requires
+four-bytes-requires c κs = search needs
 
 add-byte-at : tie.Need-add-byte-at
 add-byte-at c = search needs
@@ -33,12 +34,12 @@ add-byte-at c = search needs
 byte-at-requires : tie.Need-byte-at-requires
 byte-at-requires c κs = search needs
 
-signed-word-requires : tie.Need-signed-word-requires
-signed-word-requires c κs = search needs
+as-signed-requires : tie.Need-as-signed-requires
+as-signed-requires c κs = search needs
 
 returns : tie.Need-returns
 unfolding coreAt kind parameter
-returns c = rw (toZ-ofZ (told (c .signed-word .result) (c .signed-word .ok))) (cc)
+returns c = rw (toZ-ofZ (told (c .as-signed .result) (c .as-signed .ok))) (cc)
 
 pub core-at-spec : {M : Type 1} → statement M
 core-at-spec =
@@ -47,11 +48,11 @@ core-at-spec =
     wide-requires
     nodes-requires
     wide-requires-2
-    add-word-at
-    mul-word-at
-    add-word-at-2
-    word-at-requires
+    add-four-bytes
+    mul-four-bytes
+    add-four-bytes-2
+    four-bytes-requires
     add-byte-at
     byte-at-requires
-    signed-word-requires
+    as-signed-requires
     returns)

@@ -1,8 +1,9 @@
+-- `netlist::inputs` meets its contract: its table is the definition's. Assumes nothing.
 use mathlib.Core.Path.{sym}
 use native.Mathlib.Omega.{arith}
-use Rattle.netlist.specs.ImageLaws.{inputs-none}
-use Rattle.netlist.specs.Image.{inputs}
 use borrow.Author.Needs.{needs}
+use Rattle.netlist.specs.Image.{inputs}
+use Rattle.netlist.specs.ImageLaws.{inputs-none}
 use Rattle.netlist.proofs.inputs.Statement.{statement}
 use Rattle.netlist.proofs.inputs.Tie as tie
 

@@ -1,14 +1,13 @@
-use mathlib.Core.Path.{_≡_, refl, sym, ap, _∙_}
+-- `netlist::judge` meets its contract: numbers 1 to 3 are tested here, and the others by `contents`. Assumes nothing.
 use mathlib.Core.Bool.{not, _||_}
+use mathlib.Core.Path.{_≡_, sym, ap, _∙_}
 use Prim.Native.Nat.{_+_, _*_}
+use borrow.Author.Needs.{needs}
+use borrow.Author.Tests.{lt-ltb, le-ltb, eq-eqb, ne-eqb}
 use lib.Dec.{ltb}
 use lib.ListN.{length}
-use native.Mathlib.Omega.{arith}
-use borrow.Author.Tests.{lt-ltb, le-ltb, eq-eqb, ne-eqb}
 use Rattle.netlist.specs.Image.{nodes, channels, size}
 use Rattle.netlist.specs.Judge.{judge, outside}
-use Rattle.netlist.specs.Clear.{Sized}
-use borrow.Author.Needs.{needs}
 use Rattle.netlist.proofs.judge.Statement.{statement}
 use Rattle.netlist.proofs.judge.Tie as tie
 

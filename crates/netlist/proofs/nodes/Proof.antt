@@ -1,5 +1,6 @@
-use Rattle.netlist.specs.Image.{nodes}
+-- `netlist::nodes` meets its contract, by the definition's text. Assumes nothing.
 use borrow.Author.Needs.{needs}
+use Rattle.netlist.specs.Image.{nodes}
 use Rattle.netlist.proofs.nodes.Statement.{statement}
 use Rattle.netlist.proofs.nodes.Tie as tie
 

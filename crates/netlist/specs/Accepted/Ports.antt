@@ -8,7 +8,7 @@ use native.Mathlib.Omega.{arith}
 use borrow.Author.Tests.{not-false}
 use Rattle.laws.specs.Below.{anyBelow}
 use Rattle.laws.specs.BelowLaws.{any-none, none-any}
-use Rattle.laws.specs.Flags.{lt-or-ge, true-or-false}
+use Rattle.laws.specs.Cases.{lt-or-ge, true-or-false}
 use Rattle.netlist.specs.Image.{nodes, channels, kind, to, port, inputs}
 use Rattle.netlist.specs.Judge.{feeds, fedTwice, notFed}
 use Rattle.netlist.specs.JudgeLaws.{feeds-ok}

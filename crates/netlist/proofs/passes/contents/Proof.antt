@@ -1,14 +1,13 @@
-use mathlib.Core.Bool.{true, false}
-use mathlib.Core.List.{List}
-use mathlib.Core.Path.{_≡_, refl, sym, ap, _∙_}
-use Prim.Native.Nat.{ℕ, _≤_}
+-- `netlist::passes::contents` meets its contract: at each return the tests for the numbers before it have failed. Assumes nothing.
+use mathlib.Core.Bool.{false}
+use mathlib.Core.Path.{_≡_, sym, ap, _∙_}
+use borrow.Author.Needs.{needs}
 use Rattle.laws.specs.Below.{anyBelow}
 use Rattle.netlist.specs.Image.{nodes, channels}
 use Rattle.netlist.specs.Judge.{judge, badKind, badWire, badPort, fedTwice, notFed}
 use Rattle.netlist.specs.JudgeLaws.{sizes-ok}
 use Rattle.netlist.specs.Passes.{Wired, foundBelow}
 use Rattle.netlist.specs.PassesLaws.{wired, twice-is, misses-is}
-use borrow.Author.Needs.{needs}
 use Rattle.netlist.proofs.passes.contents.Statement.{statement}
 use Rattle.netlist.proofs.passes.contents.Tie as tie
 

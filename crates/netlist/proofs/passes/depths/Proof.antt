@@ -1,5 +1,6 @@
-use borrow.Author.Tests.{lt-ltb, le-ltb}
+-- `netlist::passes::depths` meets its contract: at each return the tests before it have failed. Assumes nothing.
 use borrow.Author.Needs.{needs}
+use borrow.Author.Tests.{lt-ltb, le-ltb}
 use Rattle.netlist.proofs.passes.depths.Statement.{statement}
 use Rattle.netlist.proofs.passes.depths.Tie as tie
 

@@ -1,7 +1,8 @@
-use Prim.Native.Nat.{_≤_, _<_, _+_, _*_, _-_}
+-- `netlist::passes::feed_ports` meets its contract. The invariant: the marks so far are the definition's below i. Assumes nothing.
 use mathlib.Core.Path.{_≡_, refl}
-use native.Mathlib.Omega.{arith}
+use Prim.Native.Nat.{_≤_, _<_, _+_, _*_, _-_}
 use native.Mathlib.Numerals.{add-one}
+use native.Mathlib.Omega.{arith}
 use Rattle.netlist.specs.Image.{channels, to, port}
 use Rattle.netlist.specs.Passes.{fedBelow, place}
 use Rattle.netlist.specs.PassesLaws.{place-there}

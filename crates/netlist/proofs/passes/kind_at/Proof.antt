@@ -1,5 +1,6 @@
-use Rattle.netlist.specs.Image.{kind}
+-- `netlist::passes::kind_at` meets its contract, by the definition's text. Assumes nothing.
 use borrow.Author.Needs.{needs}
+use Rattle.netlist.specs.Image.{kind}
 use Rattle.netlist.proofs.passes.kind_at.Statement.{statement}
 use Rattle.netlist.proofs.passes.kind_at.Tie as tie
 

@@ -1,11 +1,12 @@
+-- `netlist::passes::misses_port` meets its contract. The invariant: what was found so far is the definition's below p. Assumes nothing.
+use mathlib.Core.Bool.{not, false}
+use mathlib.Core.Path.{_≡_, refl}
 use Prim.Native.Nat.{_≤_, _-_, _+_}
-use mathlib.Core.Path.{_≡_, refl, ap, _∙_}
-use mathlib.Core.Bool.{Bool, not, false}
-use native.Mathlib.Omega.{arith}
 use native.Mathlib.Numerals.{add-one}
+use native.Mathlib.Omega.{arith}
 use lib.ListN.{getD}
 use Rattle.laws.specs.Below.{anyBelow}
-use Rattle.netlist.specs.Image.{inputs, kind}
+use Rattle.netlist.specs.Image.{inputs}
 use Rattle.netlist.specs.ImageLaws.{inputs-few}
 use Rattle.netlist.specs.Passes.{misses}
 use Rattle.netlist.proofs.passes.misses_port.Statement.{statement}

@@ -1,10 +1,11 @@
-use native.Mathlib.Omega.{arith}
+-- `netlist::passes::scan_channel` meets its contract: one channel more is one step of each test and of the sum. Assumes nothing.
 use native.Mathlib.Numerals.{add-one}
+use native.Mathlib.Omega.{arith}
+use borrow.Author.Needs.{needs}
 use Rattle.laws.specs.Below.{anyBelow, sumBelow}
 use Rattle.netlist.specs.Judge.{badWire, badPort, badStations, badDepth}
-use Rattle.netlist.specs.Passes.{foundBelow, Passed}
+use Rattle.netlist.specs.Passes.{foundBelow}
 use Rattle.netlist.specs.Readers.{channelAt}
-use borrow.Author.Needs.{needs}
 use Rattle.netlist.proofs.passes.scan_channel.Statement.{statement}
 use Rattle.netlist.proofs.passes.scan_channel.Tie as tie
 

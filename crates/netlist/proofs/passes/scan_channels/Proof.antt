@@ -1,5 +1,6 @@
-use Prim.Native.Nat.{_≤_, _-_}
+-- `netlist::passes::scan_channels` meets its contract. The invariant: what was found so far is the definition's below i. Assumes nothing.
 use mathlib.Core.Path.{_≡_, refl}
+use Prim.Native.Nat.{_≤_, _-_}
 use native.Mathlib.Omega.{arith}
 use Rattle.laws.specs.Below.{anyBelow, sumBelow}
 use Rattle.netlist.specs.Image.{channels}

@@ -1,7 +1,8 @@
+-- `netlist::passes::scan_kinds` meets its contract. The invariant: what was found so far is the definition's below i. Assumes nothing.
+use mathlib.Core.Path.{_≡_, refl}
 use Prim.Native.Nat.{_≤_, _-_}
-use mathlib.Core.Path.{_≡_, refl, _∙_}
-use native.Mathlib.Omega.{arith}
 use native.Mathlib.Numerals.{add-one}
+use native.Mathlib.Omega.{arith}
 use Rattle.laws.specs.Below.{anyBelow}
 use Rattle.netlist.specs.Image.{nodes}
 use Rattle.netlist.specs.Judge.{badKind}

@@ -1,7 +1,8 @@
-use Prim.Native.Nat.{_≤_, _-_}
+-- `netlist::passes::scan_ports` meets its contract. The invariant: what was found so far is the definition's below i. Assumes nothing.
 use mathlib.Core.Path.{_≡_, refl}
-use native.Mathlib.Omega.{arith}
+use Prim.Native.Nat.{_≤_, _-_}
 use native.Mathlib.Numerals.{add-one}
+use native.Mathlib.Omega.{arith}
 use Rattle.laws.specs.Below.{anyBelow}
 use Rattle.netlist.specs.Image.{nodes}
 use Rattle.netlist.specs.Passes.{misses}

@@ -1,8 +1,9 @@
--- Laws of flags, for proofs that take a test apart or go by cases on an order. Assumes nothing.
+-- Cases on an order or a flag, and the parts of a flag. Assumes nothing.
 use mathlib.Core.Path.{_≡_, refl}
 use mathlib.Core.Bool.{Bool, true, false, not, _&&_, _||_, false≢true, true≢false}
 use mathlib.Core.Logic.{_⊎_, inl, inr}
-use Prim.Native.Nat.{ℕ, _<_, _≤_}
+use Prim.Native.Nat.{ℕ, suc, _<_, _≤_}
+use native.Mathlib.Nat.{le-of-suc-le-suc, eq-or-lt-of-le}
 use native.Mathlib.Decide.{decLt}
 use native.Mathlib.Omega.{arith}
 
@@ -18,6 +19,10 @@ lt-or-ge a b = by-dec (decLt a b)
     by-dec : Dec (a < b) → (a < b) ⊎ (b ≤ a)
     by-dec (yes h) = inl h
     by-dec (no f) = inr (omega arith)
+
+-- the numbers below suc n are n and those below it
+pub below-suc : {k n : ℕ} → k < suc n → (k ≡ n) ⊎ (k < n)
+below-suc h = eq-or-lt-of-le (le-of-suc-le-suc h)
 
 -- both parts of an `&&` that holds
 pub and-left : (a b : Bool) → (a && b) ≡ true → a ≡ true

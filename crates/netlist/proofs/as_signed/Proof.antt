@@ -1,11 +1,12 @@
+-- `netlist::as_signed` meets its contract: a word in the upper half stands for 2^32 less. Assumes nothing.
 use native.Mathlib.Omega.{arith}
-use mir.Syntax.{w32, w64}
+use borrow.Author.Needs.{needs}
 use mir.Facts.{toZ-ofZ}
+use mir.Syntax.{w32, w64}
 use mir.ValLaws.{toZ-pos}
 use Rattle.laws.specs.SignedLaws.{widen, signed-low, signed-less, signed-fits}
-use borrow.Author.Needs.{needs}
-use Rattle.netlist.proofs.signed_word.Statement.{statement}
-use Rattle.netlist.proofs.signed_word.Tie as tie
+use Rattle.netlist.proofs.as_signed.Statement.{statement}
+use Rattle.netlist.proofs.as_signed.Tie as tie
 
 cast-result : tie.Need-cast-result
 cast-result c = search needs
@@ -35,6 +36,6 @@ returns-2 c =
     let f = signed-fits n (c .before .pre) in
     rw (toZ-pos w64 n (omega arith), signed-less n (c .if1 .left) (c .before .pre), toZ-ofZ (widen f), toZ-ofZ f)
 
-pub signed-word-spec : {M : Type 1} → statement M
-signed-word-spec =
+pub as-signed-spec : {M : Type 1} → statement M
+as-signed-spec =
     tie.close (tie.spec cast-result cast-result-2 sub-result cast-result-3 returns returns-2)

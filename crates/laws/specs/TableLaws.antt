@@ -1,0 +1,44 @@
+-- Laws of tables. Assumes nothing.
+use mathlib.Core.List.{List, [], _∷_, append-assoc}
+use mathlib.Core.Logic.{⊎-elim}
+use mathlib.Core.Path.{_≡_, refl, _∙_}
+use Prim.Native.Nat.{ℕ, zero, suc, _<_, _≤_}
+use native.Mathlib.Nat.{not-suc-le-zero}
+use native.Mathlib.Omega.{arith}
+use lib.ListN.{length, getD, set, drop, length-append, length-drop, List·getD-append}
+use lib.Seq.{drop-cons, getD-at, set-at}
+use Rattle.laws.specs.Cases.{below-suc}
+use Rattle.laws.specs.Table.{table, tableOver}
+
+module _ {A : Type 0} where
+  pub length-table : (f : ℕ → A) (n : ℕ) → length (table f n) ≡ n
+  unfolding table
+  length-table f zero = refl
+  length-table f (suc n) = rw (length-append, length-table f n) (omega arith)
+
+  -- the entry at a place
+  pub table-at : (f : ℕ → A) (n i : ℕ) (d : A) → i < n → getD (table f n) i d ≡ f i
+  unfolding table
+  table-at f zero i d h = absurd (not-suc-le-zero h)
+  table-at f (suc n) i d h =
+      ⊎-elim
+      (λ (q : i ≡ n). rw q (getD-at (table f n) (f n) [] d n (length-table f n)))
+      (λ (l : i < n). List·getD-append (table f n) (f n ∷ []) d i (rw length-table l) ∙ table-at f n i d l)
+      (below-suc h)
+
+  -- tables that agree at each place
+  pub table-same : (f g : ℕ → A) (n : ℕ) → ((i : ℕ) → i < n → f i ≡ g i) → table f n ≡ table g n
+  unfolding table
+  table-same f g zero h = refl
+  table-same f g (suc n) h = rw (table-same f g n (λ i l. h i (omega arith)), h n (omega arith))
+
+  -- one more place of the list is written
+  pub over-set : (f : ℕ → A) (n : ℕ) (l : List A) → n < length l → set (tableOver f n l) n (f n) ≡ tableOver f (suc n) l
+  unfolding table tableOver
+  over-set f n [] h = absurd (not-suc-le-zero h)
+  over-set f n (x ∷ l) h =
+      rw (drop-cons (x ∷ l) n x h, set-at (table f n) (getD (x ∷ l) n x) (drop (suc n) (x ∷ l)) (f n) n (length-table f n), append-assoc)
+
+  pub length-over : (f : ℕ → A) (n : ℕ) (l : List A) → n ≤ length l → length (tableOver f n l) ≡ length l
+  unfolding tableOver
+  length-over f n l h = rw (length-append, length-table, length-drop) (omega arith)
