@@ -106,9 +106,9 @@ fn feed_ports(image: &[u8]) -> Fed
 }
 
 // Whether a port of node n is not among those fed.
-fn misses_port(image: &[u8], ports: [bool; 192], n: u8) -> bool
+fn misses_port(image: &[u8], ports: &[bool; 192], n: u8) -> bool
     requires { ⌜ n < 64 ⌝ }
-    ensures { λ r. ⌜ r ≡ misses (now (image .entry)) ports n ⌝ }
+    ensures { λ r. ⌜ r ≡ misses (now (image .entry)) (now (ports .entry)) n ⌝ }
 {
     let k = inputs(kind_at(image, n));
     let at = 3 * wide(n);
@@ -120,9 +120,9 @@ fn misses_port(image: &[u8], ports: [bool; 192], n: u8) -> bool
 }
 
 // Number 8: whether a node misses a port.
-fn scan_ports(image: &[u8], ports: [bool; 192]) -> bool
+fn scan_ports(image: &[u8], ports: &[bool; 192]) -> bool
     requires { ⌜ nodes (now image) ≤ 64 ⌝ }
-    ensures { λ r. ⌜ r ≡ anyBelow (misses (now (image .entry)) ports) (nodes (now (image .entry))) ⌝ }
+    ensures { λ r. ⌜ r ≡ anyBelow (misses (now (image .entry)) (now (ports .entry))) (nodes (now (image .entry))) ⌝ }
 {
     let n = nodes(image);
     let mut any = false;
@@ -168,7 +168,7 @@ pub(crate) fn contents(image: &[u8]) -> u8
         return 7;
     }
     let ports = fed.ports;
-    if scan_ports(image, ports) {
+    if scan_ports(image, &ports) {
         return 8;
     }
     depths(found)

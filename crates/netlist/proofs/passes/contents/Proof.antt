@@ -34,9 +34,9 @@ is-7 c =
     let img = c .before .before .before .before .before .before .before .args .image .now in
     ap (λ f. f .twice) (c .feed-ports .ensures) ∙ twice-is img (channels img) (places (c .before))
 
-is-8 : (c : tie.After-scan-ports) → let img = c .before .before .before .before .before .before .before .before .before .before .args .image .now in c .scan-ports .result ≡ anyBelow (notFed img) (nodes img)
+is-8 : (c : tie.After-scan-ports) → let img = c .before .before .before .before .before .before .before .before .before .before .before .args .image .now in c .scan-ports .result ≡ anyBelow (notFed img) (nodes img)
 is-8 c =
-    let p = c .before .before .before in
+    let p = c .before .before .before .before in
     let s = p .before .before .before .before .before .before .before in
     (rw (p .feed-ports .ensures) at (c .scan-ports .ensures)) ∙ misses-is (s .args .image .now) (sizes-ok (s .args .image .now) .0 (s .pre .no-2) .1) (places (p .before))
 
@@ -76,13 +76,13 @@ returns-4 c =
 
 scan-ports-requires : tie.Need-scan-ports-requires
 scan-ports-requires c κs =
-    let s = c .before .before .before .before .before .before .before .before .before in
+    let s = c .before .before .before .before .before .before .before .before .before .before in
     sizes-ok (s .args .image .now) .0 (s .pre .no-2) .1
 
 returns-5 : tie.Need-returns-5
 unfolding judge
 returns-5 c =
-    let f = c .before .before .before in
+    let f = c .before .before .before .before in
     let e = f .before .before in
     let s = e .before .before .before .before .before .before in
     rw (s .pre .no-1, s .pre .no-2, s .pre .no-3, no-4 (e .before .before .before), no-5 (e .before), no-6 e, sym (is-7 (f .before)) ∙ f .if4 .left, sym (is-8 (c .before)) ∙ c .if5 .taken)
@@ -94,7 +94,7 @@ returns-6 : tie.Need-returns-6
 unfolding judge foundBelow
 returns-6 c =
     let g = c .before in
-    let f = g .before .before .before in
+    let f = g .before .before .before .before in
     let e = f .before .before in
     let s = e .before .before .before .before .before .before in
     rw (s .pre .no-1, s .pre .no-2, s .pre .no-3, no-4 (e .before .before .before), no-5 (e .before), no-6 e, sym (is-7 (f .before)) ∙ f .if4 .left, sym (is-8 (g .before)) ∙ g .if5 .left)

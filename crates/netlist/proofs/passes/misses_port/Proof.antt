@@ -6,17 +6,16 @@ use native.Mathlib.Numerals.{add-one}
 use native.Mathlib.Omega.{arith}
 use lib.ListN.{getD}
 use Rattle.laws.specs.Below.{anyBelow}
-use Rattle.netlist.specs.Image.{inputs}
 use Rattle.netlist.specs.ImageLaws.{inputs-few}
 use Rattle.netlist.specs.Passes.{misses}
 use Rattle.netlist.proofs.passes.misses_port.Statement.{statement}
 use Rattle.netlist.proofs.passes.misses_port.Tie as tie
 
 abbrev Inv-loop : tie.InvT-loop
-Inv-loop image n ports k at any₀ p₀ any p = (p ≤ k) × (any ≡ anyBelow (λ q. not (getD ports (at + q) false)) p)
+Inv-loop image ports n k at any₀ p₀ any p = (p ≤ k) × (any ≡ anyBelow (λ q. not (getD ports (at + q) false)) p)
 
 abbrev μ-loop : tie.MeasureT-loop
-μ-loop image n ports k at any₀ p₀ any p = k - p
+μ-loop image ports n k at any₀ p₀ any p = k - p
 
 kind-at-requires : tie.Need-kind-at-requires Inv-loop μ-loop
 kind-at-requires c κs = tt
@@ -40,9 +39,10 @@ wide-requires-2 c κs = tt
 add-any : tie.Need-add-any Inv-loop μ-loop
 add-any c = omega arith
 
-array-read-any : tie.Need-array-read-any Inv-loop μ-loop
-array-read-any c =
-    omega (arith, c .before .before .before .before .inputs .ensures, inputs-few (c .before .before .before .before .before .kind-at .result))
+element-copy-out-any : tie.Need-element-copy-out-any Inv-loop μ-loop
+element-copy-out-any c =
+    let s = c .before .before .before .before in
+    omega (arith, s .inputs .ensures, inputs-few (s .before .kind-at .result))
 
 add-p : tie.Need-add-p Inv-loop μ-loop
 add-p c = omega arith
@@ -52,7 +52,7 @@ loop-less c = omega arith
 
 loop-again : tie.Need-loop-again Inv-loop μ-loop
 unfolding anyBelow
-loop-again c = (omega arith, rw (add-one, c .wide2 .ensures, c .before .before .loop .inv .1))
+loop-again c = (omega arith, rw (add-one, c .before .wide2 .ensures, c .before .before .before .loop .inv .1))
 
 returns : tie.Need-returns Inv-loop μ-loop
 unfolding misses
@@ -74,7 +74,7 @@ misses-port-spec =
     loop-holds
     wide-requires-2
     add-any
-    array-read-any
+    element-copy-out-any
     add-p
     loop-less
     loop-again
