@@ -1,4 +1,5 @@
--- What a test or a count says of all numbers below n. Each definition goes by its last number, so that one turn of a loop that counts up is one step of it.
+-- What a test or a count says of all numbers below n. Each definition goes by its last number, so that one turn of a loop that counts up is one
+-- step of it.
 use mathlib.Core.Bool.{Bool, true, false, _&&_, _||_}
 use Prim.Native.Nat.{ℕ, zero, suc, _+_}
 

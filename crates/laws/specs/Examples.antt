@@ -11,7 +11,8 @@ use Rattle.laws.specs.Signed.{signed}
 use Rattle.laws.specs.Table.{table, tableOver}
 
 -- 0, 1, 2 are all below 3, and 3 is not; 2 is found below 3 and not below 2; 0 + 1 + 2 + 3 + 4
-below : (allBelow (λ k. ltb k 3) 3 ≡ true) × (allBelow (λ k. ltb k 3) 4 ≡ false) × (anyBelow (eqb 2) 3 ≡ true) × (anyBelow (eqb 2) 2 ≡ false) × (sumBelow (λ k. k) 5 ≡ 10)
+below : (allBelow (λ k. ltb k 3) 3 ≡ true) × (allBelow (λ k. ltb k 3) 4 ≡ false) ×
+    (anyBelow (eqb 2) 3 ≡ true) × (anyBelow (eqb 2) 2 ≡ false) × (sumBelow (λ k. k) 5 ≡ 10)
 unfolding allBelow anyBelow sumBelow
 below = (refl, refl, refl, refl, refl)
 

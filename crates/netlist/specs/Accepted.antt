@@ -12,7 +12,7 @@ use Rattle.netlist.specs.Image.{nodes, channels, kind, from, to, port, s
 use Rattle.netlist.specs.Judge.{judge, feeds, badKind, badWire, badPort, badStations, badDepth}
 use Rattle.netlist.specs.JudgeLaws.{sizes-ok, length-ok, kind-ok, wire-ok, port-ok, feeds-ok, stations-ok, depth-ok}
 use Rattle.netlist.specs.Clear.{clear, unclear}
-use Rattle.netlist.specs.Accepted.Ports.{once-if, if-once, fed-if, if-fed}
+use Rattle.netlist.specs.Accepted.Ports.{once-iff, fed-iff}
 mod Ports
 
 -- a channel that feeds port p of node n
@@ -22,8 +22,9 @@ pub record Feeder (img : List ℕ) (n p : ℕ) : Type 0 where
   pub node : to img channel ≡ n
   pub input : port img channel ≡ p
 
--- in document 01's words: "N (nodes, 1 to 64)", "C (channels, 0 to 96)", "The length is 2 + 5N + 5C", the table of kinds, wires that name nodes and ports
--- that are there, "Each input port is fed by exactly one channel" (by one, and by no second), "stations 0 to 8, queue 1 to 8", "At most 256 stations"
+-- In document 01's words: "N (nodes, 1 to 64)", "C (channels, 0 to 96)", "The length is 2 + 5N + 5C", the table of kinds, wires that name
+-- nodes and ports that are there, "Each input port is fed by exactly one channel" (by no second, and by one), "stations 0 to 8, queue 1 to 8",
+-- "At most 256 stations stand in one image".
 pub record Accepted (img : List ℕ) : Type 0 where
   pub some-nodes : 1 ≤ nodes img
   pub few-nodes : nodes img ≤ 64
@@ -38,7 +39,10 @@ pub record Accepted (img : List ℕ) : Type 0 where
   pub queues : (c : ℕ) → c < channels img → (1 ≤ depth img c) × (depth img c ≤ 8)
   pub few-stations : sumBelow (stations img) (channels img) ≤ 256
 
--- where the test for it finds a channel, it is one
+-- the test for a feeding channel finds one exactly if there is one
+found : (img : List ℕ) (n p : ℕ) → Feeder img n p → anyBelow (feeds img n p) (channels img) ≡ true
+found img n p f = any-hit (feeds img n p) (f .channel) (channels img) (f .there) (feeds-ok img n p (f .channel) .1 (f .node, f .input))
+
 feeder : (img : List ℕ) (n p : ℕ) → anyBelow (feeds img n p) (channels img) ≡ true → Feeder img n p
 feeder img n p e =
     let r = any-where (feeds img n p) (channels img) e in
@@ -58,8 +62,8 @@ accepted img e =
       kinds = none-iff (badKind img) (nodes img) (kind-ok img) .0 (s .no-4);
       wires = none-iff (badWire img) (channels img) (wire-ok img) .0 (s .no-5);
       ports = none-iff (badPort img) (channels img) (port-ok img) .0 (s .no-6);
-      once = once-if img (s .no-7);
-      fed = λ n p h l. feeder img n p (fed-if img (s .no-8) n p h l);
+      once = once-iff img .0 (s .no-7);
+      fed = λ n p h l. feeder img n p (fed-iff img .0 (s .no-8) n h p l);
       rows = none-iff (badStations img) (channels img) (stations-ok img) .0 (s .no-9);
       queues = none-iff (badDepth img) (channels img) (depth-ok img) .0 (s .no-10);
       few-stations = ltb-false 256 (sumBelow (stations img) (channels img)) (s .no-11);
@@ -80,8 +84,8 @@ accepts img a =
       no-4 = none-iff (badKind img) (nodes img) (kind-ok img) .1 (a .kinds);
       no-5 = none-iff (badWire img) (channels img) (wire-ok img) .1 (a .wires);
       no-6 = none-iff (badPort img) (channels img) (port-ok img) .1 (a .ports);
-      no-7 = if-once img (a .once);
-      no-8 = if-fed img λ n p h l. let f = a .fed n p h l in any-hit (feeds img n p) (f .channel) (channels img) (f .there) (feeds-ok img n p (f .channel) .1 (f .node, f .input));
+      no-7 = once-iff img .1 (a .once);
+      no-8 = fed-iff img .1 (λ n h p l. found img n p (a .fed n p h l));
       no-9 = none-iff (badStations img) (channels img) (stations-ok img) .1 (a .rows);
       no-10 = none-iff (badDepth img) (channels img) (depth-ok img) .1 (a .queues);
       no-11 = le-ltb 256 (sumBelow (stations img) (channels img)) (a .few-stations);

@@ -78,7 +78,8 @@ pub record Judged : Type 0 where
   pub first-number : judge (set (set figure4 40 0) 6 10) ≡ 4
 
 judged : Judged
-unfolding judge nodes channels kind wire from to port depths stations depth size inputs feeds badKind badWire badPort fedTwice notFed badStations badDepth anyBelow sumBelow
+unfolding judge nodes channels kind wire from to port depths stations depth size inputs feeds
+    badKind badWire badPort fedTwice notFed badStations badDepth anyBelow sumBelow
 judged =
     record {
       accepted = refl;

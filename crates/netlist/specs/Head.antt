@@ -32,6 +32,7 @@ unfolding nodes channels
 head-judges img k h =
     ⊎-elim
     (λ (l : k < length img).
-    too-long (take k img) (rw (length-take-le k img (omega arith)) h) ∙ rw (getD-take k img 0 0 (omega arith), getD-take k img 1 0 (omega arith)) (sym (too-long img (omega arith))))
+    too-long (take k img) (rw (length-take-le k img (omega arith)) h) ∙
+    rw (getD-take k img 0 0 (omega arith), getD-take k img 1 0 (omega arith)) (sym (too-long img (omega arith))))
     (λ (l : length img ≤ k). ap judge (take-all k img l))
     (lt-or-ge k (length img))

@@ -50,6 +50,6 @@ depth img c = getD img (depths img c + 1) 0
 unfoldable pub size : List ℕ → ℕ
 size img = 2 + 5 * nodes img + 5 * channels img
 
--- How many inputs a node of each kind has, by the table of kinds: count 0; hold, total, negate, halve 1; sum, difference, larger 2; choose 3. Place 0 is no kind.
+-- The column "inputs" of the table of kinds: count 0; hold, total, negate and halve 1; sum, difference and larger 2; choose 3. Place 0 is no kind.
 unfoldable pub inputs : ℕ → ℕ
 inputs k = getD (0 ∷ 0 ∷ 1 ∷ 1 ∷ 1 ∷ 1 ∷ 2 ∷ 2 ∷ 2 ∷ 3 ∷ []) k 0

@@ -13,8 +13,10 @@ use Rattle.netlist.specs.Judge.{outside, feeds, badKind, badWire, badPor
 
 -- x is from a to b
 pub inside : (a b x : ℕ) → (outside a b x ≡ false) ↔ ((a ≤ x) × (x ≤ b))
-inside a b x =
-    (λ e. (ltb-false x a (or-left (ltb x a) (ltb b x) e), ltb-false b x (or-right (ltb x a) (ltb b x) e)), λ h. rw (le-ltb x a (h .0), le-ltb b x (h .1)))
+inside a b x = (
+  λ e. (ltb-false x a (or-left (ltb x a) (ltb b x) e), ltb-false b x (or-right (ltb x a) (ltb b x) e)),
+  λ h. rw (le-ltb x a (h .0), le-ltb b x (h .1)),
+)
 
 module _ (img : List ℕ) where
   pub sizes-ok : ((outside 1 64 (nodes img) || ltb 96 (channels img)) ≡ false) ↔ ((1 ≤ nodes img) × (nodes img ≤ 64) × (channels img ≤ 96))
@@ -50,8 +52,10 @@ module _ (img : List ℕ) where
   unfolding feeds
   feeds-ok n p c =
       let t = eqb (to img c) n in
-      let q = eqb (port img c) p in
-      (λ e. (eqb-true (to img c) n (and-left t q e), eqb-true (port img c) p (and-right t q e)), λ h. rw (eq-eqb (to img c) n (h .0), eq-eqb (port img c) p (h .1)))
+      let q = eqb (port img c) p in (
+        λ e. (eqb-true (to img c) n (and-left t q e), eqb-true (port img c) p (and-right t q e)),
+        λ h. rw (eq-eqb (to img c) n (h .0), eq-eqb (port img c) p (h .1)),
+      )
 
   pub stations-ok : (c : ℕ) → (badStations img c ≡ false) ↔ (stations img c ≤ 8)
   unfolding badStations

@@ -3,8 +3,10 @@ use mathlib.Core.Bool.{Bool, true, false, not, _||_}
 use mathlib.Core.List.{List}
 use mathlib.Core.Path.{_≡_}
 use Prim.Native.Nat.{ℕ, zero, suc, _+_, _*_, _≤_, _<_}
+use lib.Dec.{ltb}
 use lib.ListN.{getD, set, replicate}
 use Rattle.laws.specs.Below.{anyBelow, sumBelow}
+use Rattle.laws.specs.Choice.{_if_else_}
 use Rattle.netlist.specs.declared.passes.Found.{Found}
 use Rattle.netlist.specs.declared.passes.Fed.{Fed}
 use Rattle.netlist.specs.Image.{kind, to, port, stations, inputs}
@@ -30,6 +32,14 @@ foundBelow img c =
 pub record Passed (img : List ℕ) (c : ℕ) (found : Found) : Type 0 where
   pub is : found ≡ foundBelow img c
   pub bound : found .total ≤ 255 * c
+
+-- numbers 9 to 11 of what was found of all channels
+unfoldable pub depthNumber : Found → ℕ
+depthNumber found =
+    9 if found .stations else
+    10 if found .depth else
+    11 if ltb 256 (found .total) else
+    0
 
 -- the place of port p of node n among 3 ports for each of 64 nodes
 abbrev pub place : ℕ → ℕ → ℕ

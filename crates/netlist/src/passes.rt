@@ -8,13 +8,11 @@ use crate::nodes;
 use crate::wide;
 ghost use mathlib.Core.Path.{_≡_};
 ghost use Prim.Native.Nat.{_+_, _<_, _≤_};
-ghost use lib.Dec.{ltb};
-ghost use Rattle.laws.specs.Choice.{_if_else_};
 ghost use Rattle.laws.specs.Below.{anyBelow};
 ghost use Rattle.netlist.specs.Image.{nodes, channels, kind};
 ghost use Rattle.netlist.specs.Judge.{badKind, judge};
 ghost use Rattle.netlist.specs.Clear.{Sized};
-ghost use Rattle.netlist.specs.Passes.{Wired, foundBelow, Passed, fedBelow, misses};
+ghost use Rattle.netlist.specs.Passes.{Wired, foundBelow, Passed, depthNumber, fedBelow, misses};
 
 // What a pass over the channels finds: whether number 5, 6, 9 or 10 has a cause, and all stations.
 pub struct Found {
@@ -134,7 +132,7 @@ fn scan_ports(image: &[u8], ports: &[bool; 192]) -> bool
 
 // Numbers 9 to 11, from what was found of all channels.
 fn depths(found: Found) -> u8
-    ensures { λ r. ⌜ r ≡ (9 if found .stations else 10 if found .depth else 11 if ltb 256 (found .total) else 0) ⌝ }
+    ensures { λ r. ⌜ r ≡ depthNumber found ⌝ }
 {
     if found.stations {
         return 9;

@@ -59,7 +59,8 @@ same-length-2 c = c .before .before .before .loop .inv .1
 returns-2 : tie.Need-returns-2 Inv-loop μ-loop
 returns-2 c =
     let l = c .before .before .before in
-    read-of (c .before .skip-rest .result .complete) (l .loop .at) (l .loop .at + c .before .skip-rest .result .length) (l .loop .buffer) (l .loop .inv .0) (omega arith)
+    let rest = c .before .skip-rest .result in
+    read-of (rest .complete) (l .loop .at) (l .loop .at + rest .length) (l .loop .buffer) (l .loop .inv .0) (omega arith)
 
 pub read-to-end-spec : {M : Type 1} → statement M
 read-to-end-spec =

@@ -12,10 +12,14 @@ use Rattle.netlist.proofs.judge.Statement.{statement}
 use Rattle.netlist.proofs.judge.Tie as tie
 
 -- the code's tests for 2 and 3 are those of the definition
-is-2 : (c : tie.After-channels) → let img = c .before .before .before .before .args .image .now in outside 1 64 (c .before .nodes .result) || ltb 96 (c .channels .result) ≡ (outside 1 64 (nodes img) || ltb 96 (channels img))
+is-2 : (c : tie.After-channels) →
+    let img = c .before .before .before .before .args .image .now in
+    (outside 1 64 (c .before .nodes .result) || ltb 96 (c .channels .result)) ≡ (outside 1 64 (nodes img) || ltb 96 (channels img))
 is-2 c = rw (c .before .nodes .ensures, c .channels .ensures)
 
-is-size : (c : tie.After-wide2) → 2 + 5 * c .before .wide .result + 5 * c .wide2 .result ≡ size (c .before .before .before .before .before .before .before .args .image .now)
+is-size : (c : tie.After-wide2) →
+    let img = c .before .before .before .before .before .before .before .args .image .now in
+    2 + 5 * c .before .wide .result + 5 * c .wide2 .result ≡ size img
 unfolding size
 is-size c =
     let d = c .before .before .before in
@@ -59,7 +63,9 @@ returns-3 c =
     let w = c .before in
     let d = w .before .before .before in
     let img = d .before .before .before .before .args .image .now in
-    rw (le-ltb _ _ (d .before .before .if1 .left), sym (is-2 d) ∙ w .before .before .if2 .left, ne-eqb (length img) (size img) (λ e. c .if3 .taken (e ∙ sym (is-size w))))
+    let no-2 = sym (is-2 d) ∙ w .before .before .if2 .left in
+    let differ = ne-eqb (length img) (size img) (λ e. c .if3 .taken (e ∙ sym (is-size w))) in
+    rw (le-ltb _ _ (d .before .before .if1 .left), no-2, differ)
 
 contents-requires : tie.Need-contents-requires
 contents-requires c κs =

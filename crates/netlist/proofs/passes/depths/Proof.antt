@@ -1,19 +1,24 @@
 -- `netlist::passes::depths` meets its contract: at each return the tests before it have failed. Assumes nothing.
 use borrow.Author.Needs.{needs}
 use borrow.Author.Tests.{lt-ltb, le-ltb}
+use Rattle.netlist.specs.Passes.{depthNumber}
 use Rattle.netlist.proofs.passes.depths.Statement.{statement}
 use Rattle.netlist.proofs.passes.depths.Tie as tie
 
 returns : tie.Need-returns
+unfolding depthNumber
 returns c = search needs
 
 returns-2 : tie.Need-returns-2
+unfolding depthNumber
 returns-2 c = search needs
 
 returns-3 : tie.Need-returns-3
+unfolding depthNumber
 returns-3 c = rw (c .before .before .before .if1 .left, c .before .before .if2 .left, lt-ltb _ _ (c .if3 .taken))
 
 returns-4 : tie.Need-returns-4
+unfolding depthNumber
 returns-4 c = rw (c .before .before .before .if1 .left, c .before .before .if2 .left, le-ltb _ _ (c .if3 .left))
 
 pub depths-spec : {M : Type 1} → statement M

@@ -26,17 +26,18 @@ cast-t20 c = search needs
 
 add-t21 : tie.Need-add-t21
 add-t21 c =
-    let s = c .before .before .before .before .before .before .before .before .before .before .before .before .before .before .before .before .before in
+    let k = c .before .before .before .before .before .before .before .before .before .before .before .before in
+    let s = k .before .before .before .before .before in
     omega (arith, s .pre .bound, s .fits .c, c .before .struct-known11 .given)
 
 returns : tie.Need-returns
 unfolding foundBelow anyBelow sumBelow badWire badPort badStations badDepth channelAt
 returns c =
     let k = c .before .before .before .before .before .before .before .before .before .before .before .before in
-    let n = k .before .before .before in
-    let s = n .before .before in
+    let w = k .before .before in
+    let s = w .before .before .before in
     record {
-      is = rw (add-one, k .inputs .ensures, k .before .kind-at .ensures, k .before .before .channel-at .ensures, n .nodes .ensures, s .pre .is);
+      is = rw (add-one, k .inputs .ensures, k .before .kind-at .ensures, w .channel-at .ensures, w .before .nodes .ensures, s .pre .is);
       bound = omega (arith, s .pre .bound, c .before .struct-known11 .given);
     }
 
