@@ -1,12 +1,17 @@
--- The netlist: fields of the image, and the judge's answer.
+-- The netlist. What the contracts say, and what a reader has to believe: the image's fields, the judge, the readers' records; computed on examples.
 pub mod Image
-pub mod ImageLaws
 pub mod Judge
-pub mod JudgeLaws
-pub mod Clear
 pub mod Readers
+pub mod Examples
+-- What acceptance gives, for other crates; and that the first 803 bytes of an input decide.
+pub mod Accepted
+pub mod AcceptedLaws
+pub mod Head
+-- Laws behind these.
+pub mod ImageLaws
+pub mod JudgeLaws
+pub mod FedLaws
+pub mod Clear
+-- What the judge's loops hold, and that it is what the definition asks.
 pub mod Passes
 pub mod PassesLaws
-pub mod Accepted
-pub mod Head
-pub mod Examples
