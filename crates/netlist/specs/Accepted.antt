@@ -1,10 +1,10 @@
 -- What acceptance gives: all that other crates use of the judge. `AcceptedLaws` proves that an accepted image has it, and only such an image.
 use mathlib.Core.List.{List}
 use mathlib.Core.Path.{_≡_}
-use Prim.Native.Nat.{ℕ, _≤_, _<_}
+use Prim.Native.Nat.{ℕ, _≤_, _<_, _+_, _*_}
 use lib.ListN.{length}
 use Rattle.laws.specs.Below.{sumBelow}
-use Rattle.netlist.specs.Image.{nodes, channels, kind, from, to, port, stations, depth, size, inputs}
+use Rattle.netlist.specs.Image.{nodes, channels, kind, from, to, port, stations, depth, inputs}
 
 -- a channel that feeds port p of node n
 pub record Feeder (img : List ℕ) (n p : ℕ) : Type 0 where
@@ -20,7 +20,7 @@ pub record Accepted (img : List ℕ) : Type 0 where
   pub some-nodes : 1 ≤ nodes img
   pub few-nodes : nodes img ≤ 64
   pub few-channels : channels img ≤ 96
-  pub whole : length img ≡ size img
+  pub whole : length img ≡ 2 + 5 * nodes img + 5 * channels img
   pub kinds : (n : ℕ) → n < nodes img → (1 ≤ kind img n) × (kind img n ≤ 9)
   pub wires : (c : ℕ) → c < channels img → (from img c < nodes img) × (to img c < nodes img)
   pub ports : (c : ℕ) → c < channels img → port img c < inputs (kind img (to img c))

@@ -8,7 +8,7 @@ use borrow.Author.Tests.{ltb-false, le-ltb}
 use lib.ListN.{length}
 use Rattle.laws.specs.Below.{anyBelow, sumBelow}
 use Rattle.laws.specs.BelowLaws.{any-where, any-hit, none-iff}
-use Rattle.netlist.specs.Image.{nodes, channels, stations, size}
+use Rattle.netlist.specs.Image.{nodes, channels, stations}
 use Rattle.netlist.specs.Judge.{judge, feeds, badKind, badWire, badPort, badStations, badDepth}
 use Rattle.netlist.specs.JudgeLaws.{sizes-ok, length-ok, kind-ok, wire-ok, port-ok, feeds-ok, stations-ok, depth-ok}
 use Rattle.netlist.specs.Accepted.{Feeder, Accepted}
@@ -47,7 +47,6 @@ accepted img e =
 
 -- and the judge accepts an image that has them
 pub accepts : (img : List ℕ) → Accepted img → judge img ≡ 0
-unfolding size
 accepts img a =
     unclear img
     record {

@@ -2,20 +2,20 @@
 use mathlib.Core.Bool.{Bool, true, false, not, _||_}
 use mathlib.Core.List.{List}
 use mathlib.Core.Path.{_≡_, refl}
-use Prim.Native.Nat.{ℕ, suc}
+use Prim.Native.Nat.{ℕ, suc, _+_, _*_}
 use native.Mathlib.Omega.{arith}
 use lib.Dec.{eqb, ltb}
 use lib.ListN.{length}
 use Rattle.laws.specs.Below.{anyBelow, sumBelow}
 use Rattle.laws.specs.Choice.{_if_else_}
-use Rattle.netlist.specs.Image.{nodes, channels, stations, size}
+use Rattle.netlist.specs.Image.{nodes, channels, stations}
 use Rattle.netlist.specs.Judge.{judge, outside, badKind, badWire, badPort, fedTwice, notFed, badStations, badDepth}
 
 -- numbers 1 to 3 have no cause
 pub record Sized (img : List ℕ) : Type 0 where
   pub no-1 : ltb (length img) 2 ≡ false
   pub no-2 : (outside 1 64 (nodes img) || ltb 96 (channels img)) ≡ false
-  pub no-3 : not (eqb (length img) (size img)) ≡ false
+  pub no-3 : not (eqb (length img) (2 + 5 * nodes img + 5 * channels img)) ≡ false
 
 -- nor has any other
 pub record Clear (img : List ℕ) : Type 0 where

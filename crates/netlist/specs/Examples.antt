@@ -6,11 +6,11 @@ use lib.IntN.{pos, negsuc}
 use lib.ListN.{set, take, replicate}
 use Rattle.laws.specs.Below.{anyBelow, sumBelow}
 use Rattle.laws.specs.Signed.{signed}
-use Rattle.netlist.specs.Image.{nodes, channels, kind, parameter, wire, from, to, port, depths, stations, depth, size, inputs}
+use Rattle.netlist.specs.Image.{nodes, channels, kind, parameter, wire, from, to, port, depths, stations, depth, inputs}
 use Rattle.netlist.specs.Judge.{judge, feeds, badKind, badWire, badPort, fedTwice, notFed, badStations, badDepth}
 
 -- kinds 1 1 6 2 2; parameters 10 100 0 0 0; wires 0-2-0, 1-2-1, 2-3-0, 2-4-0; depths 0/2, 0/2, 0/1, 0/1
-abbrev figure4 : List ℕ
+abbrev pub figure4 : List ℕ
 figure4 =
     (5 ∷ 4 ∷ []) ++
     (1 ∷ 1 ∷ 6 ∷ 2 ∷ 2 ∷ []) ++
@@ -19,7 +19,7 @@ figure4 =
     (0 ∷ 2 ∷ 0 ∷ 2 ∷ 0 ∷ 1 ∷ 0 ∷ 1 ∷ [])
 
 -- a ring of a hold node and a negate node, parameters 7 and -2, with 3 stations one way and 8 the other
-abbrev ring : List ℕ
+abbrev pub ring : List ℕ
 ring = (2 ∷ 2 ∷ []) ++ (2 ∷ 4 ∷ []) ++ (7 ∷ 0 ∷ 0 ∷ 0 ∷ 254 ∷ 255 ∷ 255 ∷ 255 ∷ []) ++ (0 ∷ 1 ∷ 0 ∷ 1 ∷ 0 ∷ 0 ∷ []) ++ (3 ∷ 1 ∷ 8 ∷ 8 ∷ [])
 
 -- wires 0-1-0, 0-2-0, .., 0-m-0
@@ -47,17 +47,17 @@ singles k zero = []
 singles k (suc m) = 0 ∷ k ∷ 0 ∷ singles (suc k) m
 
 -- 32 sum nodes and k hold nodes, 32 + k nodes and 64 + k channels, all fed by node 0
-abbrev wide : ℕ → List ℕ
-wide k = ((32 + k) ∷ (64 + k) ∷ []) ++ replicate 32 6 ++ replicate k 2 ++ replicate (4 * (32 + k)) 0 ++ pairs 32 ++ singles 32 k ++ rows 0 0 (64 + k)
+abbrev fan : ℕ → List ℕ
+fan k = ((32 + k) ∷ (64 + k) ∷ []) ++ replicate 32 6 ++ replicate k 2 ++ replicate (4 * (32 + k)) 0 ++ pairs 32 ++ singles 32 k ++ rows 0 0 (64 + k)
 
 pub record Judged : Type 0 where
   pub accepted : judge figure4 ≡ 0
   pub with-stations : judge ring ≡ 0
-  pub at-64-nodes-96-channels : judge (wide 32) ≡ 0
+  pub at-64-nodes-96-channels : judge (fan 32) ≡ 0
   pub at-256-stations : judge (star 32 8) ≡ 0
   pub at-1 : judge (5 ∷ []) ≡ 1
   pub at-2-no-nodes : judge (set figure4 0 0) ≡ 2
-  pub at-2-nodes : judge (wide 33) ≡ 2
+  pub at-2-nodes : judge (fan 33) ≡ 2
   pub at-2-nodes-alone : judge (65 ∷ 0 ∷ []) ≡ 2
   pub at-2-channels : judge (1 ∷ 97 ∷ []) ≡ 2
   pub at-3-short : judge (take 46 figure4) ≡ 3
@@ -78,7 +78,7 @@ pub record Judged : Type 0 where
   pub first-number : judge (set (set figure4 40 0) 6 10) ≡ 4
 
 judged : Judged
-unfolding judge nodes channels kind wire from to port depths stations depth size inputs feeds
+unfolding judge nodes channels kind wire from to port depths stations depth inputs feeds
     badKind badWire badPort fedTwice notFed badStations badDepth anyBelow sumBelow
 judged =
     record {

@@ -3,7 +3,7 @@ use mathlib.Core.Bool.{true, false, _||_}
 use mathlib.Core.List.{List}
 use mathlib.Core.Logic.{⊎-elim}
 use mathlib.Core.Path.{_≡_, sym, ap, _∙_}
-use Prim.Native.Nat.{ℕ, _<_, _≤_}
+use Prim.Native.Nat.{ℕ, _<_, _≤_, _+_, _*_}
 use native.Mathlib.Omega.{arith}
 use borrow.Author.Tests.{le-ltb, ne-eqb}
 use lib.Dec.{ltb}
@@ -11,19 +11,20 @@ use lib.ListN.{length, take}
 use lib.Seq.{getD-take, take-all, length-take-le}
 use Rattle.laws.specs.Choice.{_if_else_}
 use Rattle.laws.specs.Cases.{true-or-false, lt-or-ge}
-use Rattle.netlist.specs.Image.{nodes, channels, size}
+use Rattle.netlist.specs.Image.{nodes, channels}
 use Rattle.netlist.specs.Judge.{judge, outside}
 use Rattle.netlist.specs.JudgeLaws.{sizes-ok}
 
 -- of an input that is too long only N and C count
 too-long : (img : List ℕ) → 802 < length img → judge img ≡ (2 if outside 1 64 (nodes img) || ltb 96 (channels img) else 3)
-unfolding judge size
+unfolding judge
 too-long img h =
     ⊎-elim
     (λ (e : (outside 1 64 (nodes img) || ltb 96 (channels img)) ≡ true). rw (le-ltb (length img) 2 (omega arith), e))
     (λ (e : (outside 1 64 (nodes img) || ltb 96 (channels img)) ≡ false).
     let z = sizes-ok img .0 e in
-    rw (le-ltb (length img) 2 (omega arith), e, ne-eqb (length img) (size img) (λ q. omega arith)))
+    let due = 2 + 5 * nodes img + 5 * channels img in
+    rw (le-ltb (length img) 2 (omega arith), e, ne-eqb (length img) due (λ q. omega arith)))
     (true-or-false (outside 1 64 (nodes img) || ltb 96 (channels img)))
 
 -- the first k bytes have the number of the whole, where k is over 802

@@ -46,10 +46,6 @@ stations img c = getD img (depths img c) 0
 unfoldable pub depth : List ℕ → ℕ → ℕ
 depth img c = getD img (depths img c + 1) 0
 
--- "The length is 2 + 5N + 5C."
-unfoldable pub size : List ℕ → ℕ
-size img = 2 + 5 * nodes img + 5 * channels img
-
 -- The column "inputs" of the table of kinds: count 0; hold, total, negate and halve 1; sum, difference and larger 2; choose 3. Place 0 is no kind.
 unfoldable pub inputs : ℕ → ℕ
 inputs k = getD (0 ∷ 0 ∷ 1 ∷ 1 ∷ 1 ∷ 1 ∷ 2 ∷ 2 ∷ 2 ∷ 3 ∷ []) k 0

@@ -1,11 +1,11 @@
 -- The judge: "Order: 1 to 11 rising, each over the whole image."
 use mathlib.Core.Bool.{Bool, not, _&&_, _||_}
 use mathlib.Core.List.{List}
-use Prim.Native.Nat.{ℕ}
+use Prim.Native.Nat.{ℕ, _+_, _*_}
 use lib.Dec.{eqb, leb, ltb}
 use lib.ListN.{length}
 use Rattle.laws.specs.Below.{anyBelow, sumBelow}
-use Rattle.netlist.specs.Image.{nodes, channels, kind, from, to, port, stations, depth, size, inputs}
+use Rattle.netlist.specs.Image.{nodes, channels, kind, from, to, port, stations, depth, inputs}
 use Rattle.laws.specs.Choice.{_if_else_}
 
 -- x is not from a to b
@@ -47,9 +47,13 @@ badDepth img c = outside 1 8 (depth img c)
 -- 0 where the image is accepted, else the first of the numbers 1 to 11 whose condition holds somewhere in it
 unfoldable pub judge : List ℕ → ℕ
 judge img =
+    -- image under 2 bytes
     1 if ltb (length img) 2 else
+    -- N is 0 or over 64, or C over 96
     2 if outside 1 64 (nodes img) || ltb 96 (channels img) else
-    3 if not (eqb (length img) (size img)) else
+    -- length not 2 + 5N + 5C
+    3 if not (eqb (length img) (2 + 5 * nodes img + 5 * channels img)) else
+    -- each of these at some node or channel
     4 if anyBelow (badKind img) (nodes img) else
     5 if anyBelow (badWire img) (channels img) else
     6 if anyBelow (badPort img) (channels img) else
@@ -57,5 +61,6 @@ judge img =
     8 if anyBelow (notFed img) (nodes img) else
     9 if anyBelow (badStations img) (channels img) else
     10 if anyBelow (badDepth img) (channels img) else
+    -- over 256 stations in all
     11 if ltb 256 (sumBelow (stations img) (channels img)) else
     0

@@ -3,12 +3,12 @@ use mathlib.Core.Bool.{true, false, not, _||_}
 use mathlib.Core.List.{List}
 use mathlib.Core.Logic.{_↔_}
 use mathlib.Core.Path.{_≡_, ap}
-use Prim.Native.Nat.{ℕ, _<_, _≤_}
+use Prim.Native.Nat.{ℕ, _<_, _≤_, _+_, _*_}
 use borrow.Author.Tests.{ltb-false, leb-false, le-ltb, lt-leb, eqb-true, eq-eqb, not-false}
 use lib.Dec.{eqb, leb, ltb}
 use lib.ListN.{length}
 use Rattle.laws.specs.Cases.{and-left, and-right, or-left, or-right}
-use Rattle.netlist.specs.Image.{nodes, channels, kind, from, to, port, stations, depth, size, inputs}
+use Rattle.netlist.specs.Image.{nodes, channels, kind, from, to, port, stations, depth, inputs}
 use Rattle.netlist.specs.Judge.{outside, feeds, badKind, badWire, badPort, badStations, badDepth}
 
 -- x is from a to b
@@ -27,8 +27,10 @@ module _ (img : List ℕ) where
     λ h. rw (inside 1 64 (nodes img) .1 (h .0, h .1), le-ltb 96 (channels img) (h .2)),
   )
 
-  pub length-ok : (not (eqb (length img) (size img)) ≡ false) ↔ (length img ≡ size img)
-  length-ok = (λ e. eqb-true (length img) (size img) (not-false (eqb (length img) (size img)) e), λ q. ap not (eq-eqb (length img) (size img) q))
+  pub length-ok : (not (eqb (length img) (2 + 5 * nodes img + 5 * channels img)) ≡ false) ↔ (length img ≡ 2 + 5 * nodes img + 5 * channels img)
+  length-ok =
+      let due = 2 + 5 * nodes img + 5 * channels img in
+      (λ e. eqb-true (length img) due (not-false (eqb (length img) due) e), λ q. ap not (eq-eqb (length img) due q))
 
   pub kind-ok : (n : ℕ) → (badKind img n ≡ false) ↔ ((1 ≤ kind img n) × (kind img n ≤ 9))
   unfolding badKind

@@ -5,7 +5,7 @@ ghost use mathlib.Core.Path.{_≡_};
 ghost use Prim.Native.Nat.{_+_, _*_, _^_, _<_};
 ghost use lib.ListN.{getD};
 ghost use Rattle.laws.specs.Signed.{signed};
-ghost use Rattle.netlist.specs.Image.{nodes, channels, fourBytes, inputs};
+ghost use Rattle.netlist.specs.Image.{nodes, channels, kind, fourBytes, inputs};
 ghost use Rattle.netlist.specs.Judge.{judge};
 ghost use Rattle.netlist.specs.Readers.{coreAt, channelAt};
 
@@ -53,6 +53,13 @@ pub fn channels(image: &[u8]) -> u8
     byte_at(image, 1)
 }
 
+// Node n's kind.
+fn kind_at(image: &[u8], n: u8) -> u8
+    ensures { λ r. ⌜ r ≡ kind (now (image .entry)) n ⌝ }
+{
+    byte_at(image, 2 + wide(n))
+}
+
 // The number of four bytes, low byte first.
 fn joined(a: u8, b: u8, c: u8, d: u8) -> u64
     ensures { λ r. ⌜ (r ≡ a + 2 ^ 8 * b + 2 ^ 16 * c + 2 ^ 24 * d) × (r < 2 ^ 32) ⌝ }
@@ -89,10 +96,9 @@ fn as_signed(n: u64) -> i32
 pub fn core_at(image: &[u8], n: u8) -> Core
     ensures { λ r. ⌜ r ≡ coreAt (now (image .entry)) n ⌝ }
 {
-    let i = wide(n);
-    let parameter = four_bytes(image, 2 + wide(nodes(image)) + 4 * i);
+    let parameter = four_bytes(image, 2 + wide(nodes(image)) + 4 * wide(n));
     Core {
-        kind: byte_at(image, 2 + i),
+        kind: kind_at(image, n),
         parameter: as_signed(parameter),
     }
 }

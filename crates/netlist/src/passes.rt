@@ -1,15 +1,15 @@
 // The judge's passes over an image whose length fits its sizes. Each goes over all nodes or all
 // channels once, so that a number is settled for the whole image before the next is looked at.
-use crate::byte_at;
 use crate::channel_at;
 use crate::channels;
 use crate::inputs;
+use crate::kind_at;
 use crate::nodes;
 use crate::wide;
 ghost use mathlib.Core.Path.{_≡_};
 ghost use Prim.Native.Nat.{_+_, _<_, _≤_};
 ghost use Rattle.laws.specs.Below.{anyBelow};
-ghost use Rattle.netlist.specs.Image.{nodes, channels, kind};
+ghost use Rattle.netlist.specs.Image.{nodes, channels};
 ghost use Rattle.netlist.specs.Judge.{badKind, judge};
 ghost use Rattle.netlist.specs.Clear.{Sized};
 ghost use Rattle.netlist.specs.Passes.{Wired, foundBelow, Passed, depthNumber, fedBelow, misses};
@@ -27,13 +27,6 @@ pub struct Found {
 pub struct Fed {
     pub twice: bool,
     pub ports: [bool; 192],
-}
-
-// The kind byte of node n.
-fn kind_at(image: &[u8], n: u8) -> u8
-    ensures { λ r. ⌜ r ≡ kind (now (image .entry)) n ⌝ }
-{
-    byte_at(image, 2 + wide(n))
 }
 
 // Number 4: whether a kind is not 1 to 9.
@@ -131,7 +124,7 @@ fn scan_ports(image: &[u8], ports: &[bool; 192]) -> bool
 }
 
 // Numbers 9 to 11, from what was found of all channels.
-fn depths(found: Found) -> u8
+fn depth_number(found: Found) -> u8
     ensures { λ r. ⌜ r ≡ depthNumber found ⌝ }
 {
     if found.stations {
@@ -169,5 +162,5 @@ pub(crate) fn contents(image: &[u8]) -> u8
     if scan_ports(image, &ports) {
         return 8;
     }
-    depths(found)
+    depth_number(found)
 }

@@ -70,7 +70,22 @@ byte-at-requires-5 c κs = search needs
 
 returns : tie.Need-returns
 unfolding channelAt from to port stations depth wire depths
-returns c = cc
+returns c =
+    let t = c .before .before in
+    let f = t .before .before in
+    let w = f .before in
+    rw (
+      c .byte-at5 .ensures,
+      c .before .byte-at4 .ensures,
+      t .byte-at3 .ensures,
+      t .before .byte-at2 .ensures,
+      f .byte-at .ensures,
+      w .wide3 .ensures,
+      w .before .channels .ensures,
+      w .before .before .wide2 .ensures,
+      w .before .before .before .nodes .ensures,
+      w .before .before .before .before .wide .ensures,
+    )
 
 pub channel-at-spec : {M : Type 1} → statement M
 channel-at-spec =

@@ -6,7 +6,7 @@ use borrow.Author.Needs.{needs}
 use borrow.Author.Tests.{lt-ltb, le-ltb, eq-eqb, ne-eqb}
 use lib.Dec.{ltb}
 use lib.ListN.{length}
-use Rattle.netlist.specs.Image.{nodes, channels, size}
+use Rattle.netlist.specs.Image.{nodes, channels}
 use Rattle.netlist.specs.Judge.{judge, outside}
 use Rattle.netlist.proofs.judge.Statement.{statement}
 use Rattle.netlist.proofs.judge.Tie as tie
@@ -17,11 +17,10 @@ is-2 : (c : tie.After-channels) →
     (outside 1 64 (c .before .nodes .result) || ltb 96 (c .channels .result)) ≡ (outside 1 64 (nodes img) || ltb 96 (channels img))
 is-2 c = rw (c .before .nodes .ensures, c .channels .ensures)
 
-is-size : (c : tie.After-wide2) →
+is-length : (c : tie.After-wide2) →
     let img = c .before .before .before .before .before .before .before .args .image .now in
-    2 + 5 * c .before .wide .result + 5 * c .wide2 .result ≡ size img
-unfolding size
-is-size c =
+    2 + 5 * c .before .wide .result + 5 * c .wide2 .result ≡ 2 + 5 * nodes img + 5 * channels img
+is-length c =
     let d = c .before .before .before in
     rw (c .wide2 .ensures, c .before .wide .ensures, d .channels .ensures, d .before .nodes .ensures)
 
@@ -64,7 +63,8 @@ returns-3 c =
     let d = w .before .before .before in
     let img = d .before .before .before .before .args .image .now in
     let no-2 = sym (is-2 d) ∙ w .before .before .if2 .left in
-    let differ = ne-eqb (length img) (size img) (λ e. c .if3 .taken (e ∙ sym (is-size w))) in
+    let due = 2 + 5 * nodes img + 5 * channels img in
+    let differ = ne-eqb (length img) due (λ e. c .if3 .taken (e ∙ sym (is-length w))) in
     rw (le-ltb _ _ (d .before .before .if1 .left), no-2, differ)
 
 contents-requires : tie.Need-contents-requires
@@ -75,7 +75,7 @@ contents-requires c κs =
     record {
       no-1 = le-ltb _ _ (d .before .before .if1 .left);
       no-2 = sym (is-2 d) ∙ w .before .before .if2 .left;
-      no-3 = ap not (eq-eqb (length img) (size img) (c .if3 .left ∙ is-size w));
+      no-3 = ap not (eq-eqb (length img) (2 + 5 * nodes img + 5 * channels img) (c .if3 .left ∙ is-length w));
     }
 
 returns-4 : tie.Need-returns-4

@@ -112,15 +112,15 @@ returns-5 c =
     let e = c .before .before .before .before in
     rw (left (e .before .before), sym (is-7 (e .before)) ∙ e .if4 .left, sym (is-8 (c .before)) ∙ c .if5 .taken)
 
-depths-requires : tie.Need-depths-requires
-depths-requires c κs = search needs
+depth-number-requires : tie.Need-depth-number-requires
+depth-number-requires c κs = search needs
 
 returns-6 : tie.Need-returns-6
 returns-6 c =
     let f = c .before in
     let e = f .before .before .before .before in
     rw (left (e .before .before), sym (is-7 (e .before)) ∙ e .if4 .left, sym (is-8 (f .before)) ∙ f .if5 .left)
-    (rw (e .before .before .before .before .scan-channels .ensures) at (c .depths .ensures))
+    (rw (e .before .before .before .before .scan-channels .ensures) at (c .depth-number .ensures))
 
 pub contents-spec : {M : Type 1} → statement M
 contents-spec =
@@ -135,5 +135,5 @@ contents-spec =
     returns-4
     scan-ports-requires
     returns-5
-    depths-requires
+    depth-number-requires
     returns-6)

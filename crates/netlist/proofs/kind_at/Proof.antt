@@ -1,8 +1,8 @@
--- `netlist::passes::kind_at` meets its contract, by the definition's text. Assumes nothing.
+-- `netlist::kind_at` meets its contract, by the definition's text. Assumes nothing.
 use borrow.Author.Needs.{needs}
 use Rattle.netlist.specs.Image.{kind}
-use Rattle.netlist.proofs.passes.kind_at.Statement.{statement}
-use Rattle.netlist.proofs.passes.kind_at.Tie as tie
+use Rattle.netlist.proofs.kind_at.Statement.{statement}
+use Rattle.netlist.proofs.kind_at.Tie as tie
 
 wide-requires : tie.Need-wide-requires
 wide-requires c κs = search needs

@@ -1,9 +1,9 @@
--- `netlist::passes::depths` meets its contract: at each return the tests before it have failed. Assumes nothing.
+-- `netlist::passes::depth_number` meets its contract: at each return the tests before it have failed. Assumes nothing.
 use borrow.Author.Needs.{needs}
 use borrow.Author.Tests.{lt-ltb, le-ltb}
 use Rattle.netlist.specs.Passes.{depthNumber}
-use Rattle.netlist.proofs.passes.depths.Statement.{statement}
-use Rattle.netlist.proofs.passes.depths.Tie as tie
+use Rattle.netlist.proofs.passes.depth_number.Statement.{statement}
+use Rattle.netlist.proofs.passes.depth_number.Tie as tie
 
 returns : tie.Need-returns
 unfolding depthNumber
@@ -21,5 +21,5 @@ returns-4 : tie.Need-returns-4
 unfolding depthNumber
 returns-4 c = rw (c .before .before .before .if1 .left, c .before .before .if2 .left, le-ltb _ _ (c .if3 .left))
 
-pub depths-spec : {M : Type 1} → statement M
-depths-spec = tie.close (tie.spec returns returns-2 returns-3 returns-4)
+pub depth-number-spec : {M : Type 1} → statement M
+depth-number-spec = tie.close (tie.spec returns returns-2 returns-3 returns-4)
