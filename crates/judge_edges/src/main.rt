@@ -1,5 +1,5 @@
-// Runs the judge on the edges of its limits, each with one cause of a number, and prints a line a
-// case. Every image here is made from the largest one: 64 nodes and 96 channels.
+// Runs the judge at its limits, on images that have one cause of a number or two, and prints a line a
+// case. Each image is made from the largest one, 64 nodes and 96 channels.
 use libc::STDOUT_FILENO;
 
 // An image and its length.
@@ -20,19 +20,21 @@ fn with(image: Image, at: usize, byte: u8) -> Image {
     }
 }
 
-// Nodes 0 to 31 are sum nodes and the others hold nodes.
-fn with_nodes(image: Image, n: u8) -> Image {
-    let mut next = image;
-    for i in 0..n {
-        let kind = if i < 32 { 6 } else { 2 };
-        next = with(next, 2 + i as usize, kind);
+// Node i, if it is one of n: nodes 0 to 31 are sum nodes and the others hold nodes.
+fn with_node(image: Image, n: u8, i: u8) -> Image {
+    if n <= i {
+        return image;
     }
-    next
+    let kind = if i < 32 { 6 } else { 2 };
+    with(image, 2 + i as usize, kind)
 }
 
-// Channels 0 to 63 feed the sum nodes, two each, and the others the hold nodes. Each has 8 stations
-// while they last, and a queue of depth 1.
+// Channel i, if it is one of c: channels 0 to 63 feed the sum nodes, two each, and the others the hold
+// nodes. Each has 8 stations while they last, and a queue of depth 1.
 fn with_channel(image: Image, n: u8, c: u8, i: u8, stations: u16) -> Image {
+    if c <= i {
+        return image;
+    }
     let wire = 2 + 5 * n as usize + 3 * i as usize;
     let depths = 2 + 5 * n as usize + 3 * c as usize + 2 * i as usize;
     let before = 8 * i as u16;
@@ -48,21 +50,17 @@ fn with_channel(image: Image, n: u8, c: u8, i: u8, stations: u16) -> Image {
     with(with(wired, depths, row), depths + 1, 1)
 }
 
-fn with_channels(image: Image, n: u8, c: u8, stations: u16) -> Image {
-    let mut next = image;
-    for i in 0..c {
-        next = with_channel(next, n, c, i, stations);
-    }
-    next
-}
-
+// An image of n nodes and c channels, at most 97 of each.
 fn sized(n: u8, c: u8, stations: u16) -> Image {
     let empty = Image {
         bytes: [0; 820],
         length: 2 + 5 * n as usize + 5 * c as usize,
     };
-    let headed = with(with(empty, 0, n), 1, c);
-    with_channels(with_nodes(headed, n), n, c, stations)
+    let mut image = with(with(empty, 0, n), 1, c);
+    for i in 0..97 {
+        image = with_channel(with_node(image, n, i), n, c, i, stations);
+    }
+    image
 }
 
 // The same bytes with another length.

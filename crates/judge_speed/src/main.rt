@@ -13,29 +13,22 @@ fn change(image: &mut [u8], turn: u32) {
     }
 }
 
-fn number_of(image: &[u8], length: usize) -> u8 {
-    if length < image.len() {
-        return netlist::judge(&image[0..length]);
-    }
-    netlist::judge(image)
-}
-
 // One more, if the image is accepted.
-fn counted(accepted: u32, image: &[u8], length: usize) -> u32
+fn counted(accepted: u32, image: &[u8]) -> u32
     requires { ⌜ accepted < 2 ^ 31 ⌝ }
     ensures { λ r. ⌜ r ≤ accepted + 1 ⌝ }
 {
-    if number_of(image, length) == 0 {
+    if netlist::judge(image) == 0 {
         return accepted + 1;
     }
     accepted
 }
 
-fn count(image: &mut [u8], length: usize) -> u32 {
+fn count(image: &mut [u8]) -> u32 {
     let mut accepted: u32 = 0;
     for turn in 0..TIMES {
         change(image, turn);
-        accepted = counted(accepted, image, length);
+        accepted = counted(accepted, image);
     }
     accepted
 }
@@ -43,7 +36,8 @@ fn count(image: &mut [u8], length: usize) -> u32 {
 fn main() {
     let mut image = [0u8; 803];
     let input = input::read_to_end(&mut image);
-    let accepted = count(&mut image, input.kept);
+    let kept = input.kept;
+    let accepted = count(&mut image[..kept]);
     io::print_decimal(STDOUT_FILENO, accepted as u64);
     io::write_all(STDOUT_FILENO, b" accepted\n");
 }

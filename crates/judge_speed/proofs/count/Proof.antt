@@ -2,14 +2,15 @@
 use mathlib.Core.Path.{_≡_, refl, _∙_}
 use Prim.Native.Nat.{_-_, _≤_}
 use native.Mathlib.Omega.{arith}
+use lib.ListN.{length}
 use Rattle.judge_speed.proofs.count.Statement.{statement}
 use Rattle.judge_speed.proofs.count.Tie as tie
 
 abbrev Inv-loop : tie.InvT-loop
-Inv-loop image₀ length accepted₀ turn₀ image accepted turn = (turn ≤ 100000) × (accepted ≤ turn) × (lib.ListN.length image ≡ lib.ListN.length image₀)
+Inv-loop image₀ accepted₀ turn₀ image accepted turn = (turn ≤ 100000) × (accepted ≤ turn) × (length image ≡ length image₀)
 
 abbrev μ-loop : tie.MeasureT-loop
-μ-loop image₀ length accepted₀ turn₀ image accepted turn = 100000 - turn
+μ-loop image₀ accepted₀ turn₀ image accepted turn = 100000 - turn
 
 loop-holds : tie.Need-loop-holds Inv-loop μ-loop
 loop-holds c = (omega arith, omega arith, refl)
