@@ -1,12 +1,14 @@
 // The netlist image: the judge, and readers of its fields.
 mod passes;
 
+ghost use mathlib.Core.Bool.{_||_};
 ghost use mathlib.Core.Path.{_≡_};
 ghost use Prim.Native.Nat.{_+_, _*_, _^_, _<_};
+ghost use lib.Dec.{ltb};
 ghost use lib.ListN.{getD};
 ghost use Rattle.laws.specs.Signed.{signed};
 ghost use Rattle.netlist.specs.Image.{nodes, channels, kind, fourBytes, inputs};
-ghost use Rattle.netlist.specs.Judge.{judge};
+ghost use Rattle.netlist.specs.Judge.{judge, outside};
 ghost use Rattle.netlist.specs.Readers.{coreAt, channelAt};
 
 // A node's fields. Kinds are 1 to 9 in an accepted image.
@@ -130,6 +132,13 @@ fn inputs(kind: u8) -> u8
     if k < 10 { INPUTS[k] } else { 0 }
 }
 
+// Number 2: whether N is not 1 to 64, or C is over 96.
+fn bad_sizes(n: u8, c: u8) -> bool
+    ensures { λ r. ⌜ r ≡ (outside 1 64 n || ltb 96 c) ⌝ }
+{
+    ((n < 1) | (64 < n)) | (96 < c)
+}
+
 // The judge: 0 for an accepted image, else the first of the numbers 1 to 11 that has a cause in it.
 pub fn judge(image: &[u8]) -> u8
     ensures { λ r. ⌜ r ≡ judge (now (image .entry)) ⌝ }
@@ -139,7 +148,7 @@ pub fn judge(image: &[u8]) -> u8
     }
     let n = nodes(image);
     let c = channels(image);
-    if ((n < 1) | (64 < n)) | (96 < c) {
+    if bad_sizes(n, c) {
         return 2;
     }
     if image.len() != 2 + 5 * wide(n) + 5 * wide(c) {
