@@ -3,6 +3,8 @@ pub mod Choice
 pub mod Below
 pub mod BelowLaws
 pub mod Cases
+pub mod Range
+pub mod RangeLaws
 pub mod Table
 pub mod TableLaws
 pub mod Signed

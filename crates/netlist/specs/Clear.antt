@@ -8,8 +8,9 @@ use lib.Dec.{eqb, ltb}
 use lib.ListN.{length}
 use Rattle.laws.specs.Below.{anyBelow, sumBelow}
 use Rattle.laws.specs.Choice.{_if_else_}
+use Rattle.laws.specs.Range.{outside}
 use Rattle.netlist.specs.Image.{nodes, channels, stations}
-use Rattle.netlist.specs.Judge.{judge, outside, badKind, badWire, badPort, fedTwice, notFed, badStations, badDepth}
+use Rattle.netlist.specs.Judge.{judge, badKind, badWire, badPort, fedTwice, notFed, badStations, badDepth}
 
 -- numbers 1 to 3 have no cause
 pub record Sized (img : List ℕ) : Type 0 where

@@ -11,8 +11,9 @@ use lib.ListN.{length, take}
 use lib.Seq.{getD-take, take-all, length-take-le}
 use Rattle.laws.specs.Choice.{_if_else_}
 use Rattle.laws.specs.Cases.{true-or-false, lt-or-ge}
+use Rattle.laws.specs.Range.{outside}
 use Rattle.netlist.specs.Image.{nodes, channels}
-use Rattle.netlist.specs.Judge.{judge, outside}
+use Rattle.netlist.specs.Judge.{judge}
 use Rattle.netlist.specs.JudgeLaws.{sizes-ok}
 
 -- of an input that is too long only N and C count

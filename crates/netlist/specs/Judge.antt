@@ -5,12 +5,9 @@ use Prim.Native.Nat.{ℕ, _+_, _*_}
 use lib.Dec.{eqb, leb, ltb}
 use lib.ListN.{length}
 use Rattle.laws.specs.Below.{anyBelow, sumBelow}
-use Rattle.netlist.specs.Image.{nodes, channels, kind, from, to, port, stations, depth, inputs}
 use Rattle.laws.specs.Choice.{_if_else_}
-
--- x is not from a to b
-abbrev pub outside : ℕ → ℕ → ℕ → Bool
-outside a b x = ltb x a || ltb b x
+use Rattle.laws.specs.Range.{outside}
+use Rattle.netlist.specs.Image.{nodes, channels, kind, from, to, port, stations, depth, inputs}
 
 -- channel c feeds port p of node n
 unfoldable pub feeds : List ℕ → ℕ → ℕ → ℕ → Bool

@@ -8,15 +8,10 @@ use borrow.Author.Tests.{ltb-false, leb-false, le-ltb, lt-leb, eqb-true, eq-eqb,
 use lib.Dec.{eqb, leb, ltb}
 use lib.ListN.{length}
 use Rattle.laws.specs.Cases.{and-left, and-right, or-left, or-right}
+use Rattle.laws.specs.Range.{outside}
+use Rattle.laws.specs.RangeLaws.{inside}
 use Rattle.netlist.specs.Image.{nodes, channels, kind, from, to, port, stations, depth, inputs}
-use Rattle.netlist.specs.Judge.{outside, feeds, badKind, badWire, badPort, badStations, badDepth}
-
--- x is from a to b
-pub inside : (a b x : ℕ) → (outside a b x ≡ false) ↔ ((a ≤ x) × (x ≤ b))
-inside a b x = (
-  λ e. (ltb-false x a (or-left (ltb x a) (ltb b x) e), ltb-false b x (or-right (ltb x a) (ltb b x) e)),
-  λ h. rw (le-ltb x a (h .0), le-ltb b x (h .1)),
-)
+use Rattle.netlist.specs.Judge.{feeds, badKind, badWire, badPort, badStations, badDepth}
 
 module _ (img : List ℕ) where
   pub sizes-ok : ((outside 1 64 (nodes img) || ltb 96 (channels img)) ≡ false) ↔ ((1 ≤ nodes img) × (nodes img ≤ 64) × (channels img ≤ 96))

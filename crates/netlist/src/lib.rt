@@ -6,9 +6,10 @@ ghost use mathlib.Core.Path.{_≡_};
 ghost use Prim.Native.Nat.{_+_, _*_, _^_, _<_};
 ghost use lib.Dec.{ltb};
 ghost use lib.ListN.{getD};
+ghost use Rattle.laws.specs.Range.{outside};
 ghost use Rattle.laws.specs.Signed.{signed};
 ghost use Rattle.netlist.specs.Image.{nodes, channels, kind, fourBytes, inputs};
-ghost use Rattle.netlist.specs.Judge.{judge, outside};
+ghost use Rattle.netlist.specs.Judge.{judge};
 ghost use Rattle.netlist.specs.Readers.{coreAt, channelAt};
 
 // A node's fields. Kinds are 1 to 9 in an accepted image.

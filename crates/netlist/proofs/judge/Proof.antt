@@ -7,8 +7,9 @@ use borrow.Author.Needs.{needs}
 use borrow.Author.Tests.{lt-ltb, le-ltb, eq-eqb, ne-eqb}
 use lib.Dec.{ltb}
 use lib.ListN.{length}
+use Rattle.laws.specs.Range.{outside}
 use Rattle.netlist.specs.Image.{nodes, channels}
-use Rattle.netlist.specs.Judge.{judge, outside}
+use Rattle.netlist.specs.Judge.{judge}
 use Rattle.netlist.proofs.judge.Statement.{statement}
 use Rattle.netlist.proofs.judge.Tie as tie
 

@@ -1,0 +1,52 @@
+-- `pearl::wrapped` meets its contract: each arm's number is in the range, and is `wrap exact` by the law of its arm. Assumes nothing.
+use mathlib.Core.Path.{_≡_, sym}
+use lib.IntN.{pos, _+ℤ_, _-ℤ_}
+use mir.Syntax.{w32}
+use mir.Val.{SFits}
+use mir.Facts.{toZ-ofZ}
+use Rattle.laws.specs.SignedLaws.{widen}
+use Rattle.pearl.specs.Next.{fired}
+use Rattle.pearl.specs.Wrap.{wrap}
+use Rattle.pearl.specs.WrapLaws.{wrap-fits, wrap-above, wrap-below, within}
+use Rattle.pearl.proofs.wrapped.Statement.{statement}
+use Rattle.pearl.proofs.wrapped.Tie as tie
+
+above : (c : tie.Then1) → SFits w32 (c .before .args .exact -ℤ pos 4294967296) × (c .before .args .exact -ℤ pos 4294967296 ≡ wrap (c .before .args .exact))
+above c = let f = c .before .fits .exact in wrap-above (c .before .args .exact) (c .before .pre) (simp toZ-ofZ at (c .if1 .taken))
+
+below : (c : tie.Then2) → SFits w32 (c .before .before .args .exact +ℤ pos 4294967296) × (c .before .before .args .exact +ℤ pos 4294967296 ≡ wrap (c .before .before .args .exact))
+below c = let f = c .before .before .fits .exact in wrap-below (c .before .before .args .exact) (c .before .before .pre) (simp toZ-ofZ at (c .if2 .taken))
+
+inside : (c : tie.Else2) → SFits w32 (c .before .before .args .exact)
+inside c = let f = c .before .before .fits .exact in within (c .before .before .args .exact) (simp toZ-ofZ at (c .before .if1 .left)) (simp toZ-ofZ at (c .if2 .left))
+
+sub-t3 : tie.Need-sub-t3
+sub-t3 c = simp (toZ-ofZ, c .before .fits .exact) (widen (above c .0))
+
+cast-t4 : tie.Need-cast-t4
+cast-t4 c = simp (toZ-ofZ, c .before .fits .exact, widen (above c .0)) (above c .0)
+
+returns : tie.Need-returns
+unfolding fired
+returns c = simp (toZ-ofZ, c .before .fits .exact, widen (above c .0), above c .0) (rw (above c .1))
+
+add-t5 : tie.Need-add-t5
+add-t5 c = simp (toZ-ofZ, c .before .before .fits .exact) (widen (below c .0))
+
+cast-t6 : tie.Need-cast-t6
+cast-t6 c = simp (toZ-ofZ, c .before .before .fits .exact, widen (below c .0)) (below c .0)
+
+returns-2 : tie.Need-returns-2
+unfolding fired
+returns-2 c = simp (toZ-ofZ, c .before .before .fits .exact, widen (below c .0), below c .0) (rw (below c .1))
+
+cast-t7 : tie.Need-cast-t7
+cast-t7 c = simp (toZ-ofZ, c .before .before .fits .exact) (inside c)
+
+returns-3 : tie.Need-returns-3
+unfolding fired
+returns-3 c = simp (toZ-ofZ, c .before .before .fits .exact, inside c, wrap-fits (c .before .before .args .exact) (inside c))
+
+pub wrapped-spec : {M : Type 1} → statement M
+wrapped-spec =
+    tie.close (tie.spec sub-t3 cast-t4 returns add-t5 cast-t6 returns-2 cast-t7 returns-3)
