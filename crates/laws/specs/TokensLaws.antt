@@ -1,0 +1,71 @@
+-- Laws of tests on lists and of padded lists. Assumes nothing.
+use mathlib.Core.Bool.{Bool, true, false, false≢true}
+use mathlib.Core.List.{List, [], _∷_, _++_, append-assoc, append-nil}
+use mathlib.Core.Path.{_≡_, refl, ap, sym, _∙_}
+use Prim.Native.Nat.{ℕ, zero, suc, _+_, _-_, _<_, _≤_}
+use native.Mathlib.Nat.{not-suc-le-zero}
+use native.Mathlib.Numerals.{add-one}
+use native.Mathlib.Omega.{arith}
+use lib.ListN.{length, getD, take, drop, set, replicate, length-append, length-replicate, replicate-append-replicate, List·getD-eq-default, getD-replicate}
+use lib.Seq.{take-append-seam, set-append-seam, append-snoc, getD-append-add}
+use Rattle.laws.specs.Tokens.{some, two, oneIf, dropIf, padded}
+
+module _ {A : Type 0} where
+  -- what is dropped comes from the first of two lists, where that has an element
+  pub dropIf-append : (xs ys : List A) (b : Bool) → (b ≡ true → some xs ≡ true) → dropIf b (xs ++ ys) ≡ dropIf b xs ++ ys
+  dropIf-append xs ys false h = refl
+  dropIf-append [] ys true h = absurd (false≢true (h refl))
+  dropIf-append (x ∷ xs) ys true h = refl
+
+  pub length-dropIf : (b : Bool) (xs : List A) → length (dropIf b xs) ≤ length xs
+  length-dropIf false xs = omega arith
+  length-dropIf true [] = omega arith
+  length-dropIf true (x ∷ xs) = omega arith
+
+  pub some-append : (xs ys : List A) → some xs ≡ true → some (xs ++ ys) ≡ true
+  some-append [] ys e = absurd (false≢true e)
+  some-append (x ∷ xs) ys e = refl
+
+  pub oneIf-few : (b : Bool) (x : A) → length (oneIf b x) ≤ 1
+  oneIf-few true x = omega arith
+  oneIf-few false x = omega arith
+
+  pub oneIf-some : (b : Bool) (x : A) → some (oneIf b x) ≡ b
+  oneIf-some true x = refl
+  oneIf-some false x = refl
+
+  -- ---- padded lists: the elements come back, and what follows them is d
+  pub length-padded : (n : ℕ) (d : A) (xs : List A) → length xs ≤ n → length (padded n d xs) ≡ n
+  unfolding padded
+  length-padded n d xs h = rw (length-append, length-replicate) (omega arith)
+
+  pub take-padded : (n : ℕ) (d : A) (xs : List A) → take (length xs) (padded n d xs) ≡ xs
+  unfolding padded
+  take-padded n d xs = take-append-seam xs (replicate (n - length xs) d)
+
+  replicate-rest : (n k : ℕ) (d : A) → getD (replicate n d) k d ≡ d
+  replicate-rest zero k d = refl
+  replicate-rest (suc n) zero d = refl
+  replicate-rest (suc n) (suc k) d = replicate-rest n k d
+
+  pub padded-rest : (n : ℕ) (d : A) (xs : List A) (k : ℕ) → length xs ≤ k → getD (padded n d xs) k d ≡ d
+  unfolding padded
+  padded-rest n d xs k h =
+      let e : k ≡ length xs + (k - length xs) = omega arith in
+      rw (e, getD-append-add) (replicate-rest (n - length xs) (k - length xs) d)
+
+  -- one more element goes into the first place behind the others
+  pub padded-set : (n : ℕ) (d : A) (xs : List A) (x : A) → length xs < n → set (padded n d xs) (length xs) x ≡ padded n d (xs ++ (x ∷ []))
+  unfolding padded
+  padded-set n d xs x h =
+      let e : n - length xs ≡ suc (n - suc (length xs)) = omega arith in
+      let l : length (xs ++ (x ∷ [])) ≡ suc (length xs) = length-append xs (x ∷ []) ∙ add-one (length xs) in
+      rw (l, e, set-append-seam) (sym (append-snoc xs x (replicate (n - suc (length xs)) d)))
+
+  -- the first element leaves, and d follows the last
+  pub padded-drop : (n : ℕ) (d : A) (x : A) (xs : List A) → length xs < n → drop 1 (padded n d (x ∷ xs)) ++ (d ∷ []) ≡ padded n d xs
+  unfolding padded
+  padded-drop n d x xs h =
+      let e : n - suc (length xs) + 1 ≡ n - length xs = omega arith in
+      append-assoc xs (replicate (n - suc (length xs)) d) (d ∷ [])
+      ∙ ap (λ (t : List A). xs ++ t) (replicate-append-replicate (n - suc (length xs)) 1 d ∙ ap (λ (k : ℕ). replicate k d) e)

@@ -1,0 +1,45 @@
+-- Laws of links. Assumes nothing.
+use mathlib.Core.Bool.{Bool, true, false}
+use mathlib.Core.List.{List, [], _∷_, _++_, append-nil}
+use mathlib.Core.Path.{_≡_, refl, ap}
+use Prim.Native.Nat.{ℕ, _≤_}
+use native.Mathlib.Omega.{arith}
+use lib.IntN.{ℤ}
+use lib.ListN.{length, take}
+use Rattle.laws.specs.Tokens.{some}
+use Rattle.laws.specs.TokensLaws.{oneIf-few, oneIf-some}
+use Rattle.relay.specs.declared.Link.{Link}
+use Rattle.relay.specs.Link.{token, linkOf, passing, staying}
+
+-- a link shows one token at most, and shows one if it is valid
+pub token-few : (link : Link) → length (token link) ≤ 1
+unfolding token
+token-few link = oneIf-few (link .valid) (link .value)
+
+pub token-valid : (link : Link) → some (token link) ≡ link .valid
+unfolding token
+token-valid link = oneIf-some (link .valid) (link .value)
+
+-- a valid link is all that there is to tell of it
+pub link-valid : (link : Link) → link .valid ≡ true → link ≡ linkOf (token link)
+unfolding token linkOf
+link-valid link e = rw e
+
+-- the link that leaves a place shows its oldest token
+pub token-of : (place : List ℤ) → token (linkOf place) ≡ take 1 place
+unfolding token linkOf
+token-of [] = refl
+token-of (x ∷ xs) = refl
+
+pub take-few : (place : List ℤ) → length (take 1 place) ≤ 1
+take-few [] = omega arith
+take-few (x ∷ place) = omega arith
+
+-- what passes and what stays is what was there
+pub passing-staying : (link : List ℤ) (stop : Bool) → passing link stop ++ staying link stop ≡ link
+passing-staying link true = refl
+passing-staying link false = append-nil link
+
+pub passing-few : (link : List ℤ) (stop : Bool) → length (passing link stop) ≤ length link
+passing-few link true = omega arith
+passing-few link false = omega arith

@@ -1,0 +1,1 @@
+-- Laws of rows of records. Assumes nothing.

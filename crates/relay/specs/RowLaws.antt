@@ -1,0 +1,83 @@
+-- Laws of a row in one cycle: first in, first out; and the same cycle by index, which is how a loop works it. Assumes nothing.
+use mathlib.Core.Bool.{Bool, true, false, not}
+use mathlib.Core.List.{List, [], _∷_, _++_, append-assoc, append-nil}
+use mathlib.Core.Path.{_≡_, refl, sym, ap, _∙_}
+use Prim.Native.Nat.{ℕ, zero, suc, _<_, _≤_}
+use native.Mathlib.Nat.{not-suc-le-zero, le-of-suc-le-suc}
+use native.Mathlib.Omega.{arith}
+use lib.IntN.{ℤ}
+use lib.ListN.{length, getD, take, drop, drop-of-length-le}
+use lib.Seq.{drop-cons}
+use Rattle.laws.specs.Tokens.{some, two, dropIf}
+use Rattle.relay.specs.Link.{passing}
+use Rattle.relay.specs.LinkLaws.{take-few}
+use Rattle.relay.specs.Station.{placeAfter}
+use Rattle.relay.specs.StationLaws.{place-few}
+use Rattle.relay.specs.Row.{stopped, leaving, rowAfter, contents}
+
+-- a place hands on its oldest token or keeps it
+hand-on : (place : List ℤ) (stop : Bool) → passing (take 1 place) stop ++ dropIf (not stop) place ≡ place
+hand-on place true = refl
+hand-on [] false = refl
+hand-on (x ∷ place) false = refl
+
+-- FIFO law of a row: what leaves, and then what is there after the cycle, is what was there, and then what enters
+pub row-fifo :
+    (link : List ℤ) (row : List (List ℤ)) (stop : Bool)
+    → passing (leaving link row) stop ++ contents (rowAfter link row stop) ≡ contents row ++ passing link (stopped row stop)
+unfolding stopped leaving rowAfter contents placeAfter
+row-fifo link [] stop = append-nil (passing link stop)
+row-fifo link (place ∷ row) stop =
+    let s = stopped row stop in
+    let enters = passing link (two place) in
+    sym (append-assoc (passing (leaving (take 1 place) row) stop) (contents (rowAfter (take 1 place) row stop)) (placeAfter link place s))
+    ∙ ap (λ (t : List ℤ). t ++ placeAfter link place s) (row-fifo (take 1 place) row stop)
+    ∙ append-assoc (contents row) (passing (take 1 place) s) (placeAfter link place s)
+    ∙ ap (λ (t : List ℤ). contents row ++ t)
+    (sym (append-assoc (passing (take 1 place) s) (dropIf (not s) place) enters) ∙ ap (λ (t : List ℤ). t ++ enters) (hand-on place s))
+    ∙ sym (append-assoc (contents row) place enters)
+
+-- no place holds more than two
+pub row-few :
+    (link : List ℤ) (row : List (List ℤ)) (stop : Bool) → length link ≤ 1 → ((j : ℕ) → length (getD row j []) ≤ 2)
+    → (j : ℕ) → length (getD (rowAfter link row stop) j []) ≤ 2
+unfolding rowAfter
+row-few link [] stop l h j = omega arith
+row-few link (place ∷ row) stop l h zero = place-few link place (stopped row stop) l (h 0)
+row-few link (place ∷ row) stop l h (suc j) = row-few (take 1 place) row stop (take-few place) (λ k. h (suc k)) j
+
+-- ---- by index
+-- what link j shows: "Link j above 0 is valid while station j holds a token, and shows the oldest"
+unfoldable pub linkAt : List ℤ → List (List ℤ) → ℕ → List ℤ
+linkAt link row zero = link
+linkAt link row (suc j) = take 1 (getD row j [])
+
+pub length-after : (link : List ℤ) (row : List (List ℤ)) (stop : Bool) → length (rowAfter link row stop) ≡ length row
+unfolding rowAfter
+length-after link [] stop = refl
+length-after link (place ∷ row) stop = ap suc (length-after (take 1 place) row stop)
+
+pub leaving-at : (link : List ℤ) (row : List (List ℤ)) → leaving link row ≡ linkAt link row (length row)
+unfolding leaving linkAt
+leaving-at link [] = refl
+leaving-at link (place ∷ []) = refl
+leaving-at link (place ∷ next ∷ row) = leaving-at (take 1 place) (next ∷ row)
+
+-- whether link j is stopped: "Link j below r is stopped while station j + 1 holds 2 tokens"
+pub stopped-inside : (row : List (List ℤ)) (stop : Bool) (j : ℕ) → j < length row → stopped (drop j row) stop ≡ two (getD row j [])
+unfolding stopped
+stopped-inside row stop j h = rw (drop-cons row j [] h)
+
+pub stopped-end : (row : List (List ℤ)) (stop : Bool) (j : ℕ) → length row ≤ j → stopped (drop j row) stop ≡ stop
+unfolding stopped
+stopped-end row stop j h = rw (drop-of-length-le row h)
+
+-- a place after the cycle
+pub after-at :
+    (link : List ℤ) (row : List (List ℤ)) (stop : Bool) (j : ℕ) → j < length row
+    → getD (rowAfter link row stop) j [] ≡ placeAfter (linkAt link row j) (getD row j []) (stopped (drop (suc j) row) stop)
+unfolding rowAfter linkAt
+after-at link [] stop j h = absurd (not-suc-le-zero h)
+after-at link (place ∷ row) stop zero h = refl
+after-at link (place ∷ row) stop (suc zero) h = after-at (take 1 place) row stop zero (le-of-suc-le-suc h)
+after-at link (place ∷ row) stop (suc (suc j)) h = after-at (take 1 place) row stop (suc j) (le-of-suc-le-suc h)

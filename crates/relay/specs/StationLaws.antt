@@ -1,0 +1,103 @@
+-- Laws of a station: its tokens and its record say the same, it never holds more than two, and its unused places are 0. Assumes nothing.
+use mathlib.Core.Bool.{Bool, true, false, not, _&&_}
+use mathlib.Core.Logic.{⊎-elim}
+use mathlib.Core.List.{List, [], _∷_, _++_, append-nil}
+use mathlib.Core.Path.{_≡_, refl, ap, _∙_}
+use Prim.Native.Nat.{ℕ, suc, _≤_, _<_}
+use native.Mathlib.Nat.{not-suc-le-zero}
+use native.Mathlib.Omega.{arith}
+use borrow.Author.Tests.{lt-leb, le-leb, eq-eqb}
+use lib.Dec.{leb, eqb}
+use lib.IntN.{ℤ, pos}
+use lib.ListN.{length, getD, take, drop-of-length-le}
+use lib.Seq.{drop-cons, take-all}
+use Rattle.laws.specs.Cases.{lt-or-ge}
+use Rattle.laws.specs.Tokens.{two, dropIf, padded}
+use Rattle.laws.specs.TokensLaws.{take-padded, padded-rest, length-padded}
+use Rattle.relay.specs.declared.Station.{Station}
+use Rattle.relay.specs.Link.{linkOf, passing}
+use Rattle.relay.specs.Station.{held, stationOf, placeAfter}
+
+-- what is stored is what is held
+pub held-of : (tokens : List ℤ) → held (stationOf tokens) ≡ tokens
+unfolding held stationOf
+held-of tokens = take-padded 2 (pos 0) tokens
+
+-- a station that has at most two tokens, and 0 in every place that holds none
+pub record Sound (s : Station) : Type 0 where
+  pub few : s .count ≤ 2
+  pub long : length (s .tokens) ≡ 2
+  pub rest : (k : ℕ) → s .count ≤ k → getD (s .tokens) k (pos 0) ≡ pos 0
+
+pub sound-of : (tokens : List ℤ) → length tokens ≤ 2 → Sound (stationOf tokens)
+unfolding stationOf
+sound-of tokens h =
+    record { few = h; long = length-padded 2 (pos 0) tokens h; rest = λ k l. padded-rest 2 (pos 0) tokens k l }
+
+-- never more than two, whatever the link shows and whether it is stopped
+pub place-few : (link place : List ℤ) (stop : Bool) → length link ≤ 1 → length place ≤ 2 → length (placeAfter link place stop) ≤ 2
+unfolding placeAfter
+place-few link [] true l h = omega arith
+place-few link [] false l h = omega arith
+place-few link (x ∷ []) true l h = omega arith
+place-few link (x ∷ []) false l h = omega arith
+place-few link (x ∷ y ∷ []) true l h = omega arith
+place-few link (x ∷ y ∷ []) false l h = omega arith
+place-few link (x ∷ y ∷ z ∷ place) stop l h = absurd (not-suc-le-zero {n = 0} (omega arith))
+
+-- ---- the tokens that a record of two places holds, by its count
+module _ (s : Station) (long : length (s .tokens) ≡ 2) where
+  both : s .tokens ≡ getD (s .tokens) 0 (pos 0) ∷ getD (s .tokens) 1 (pos 0) ∷ []
+  both =
+      let l = s .tokens in
+      drop-cons l 0 (pos 0) (omega arith)
+      ∙ ap (λ (t : List ℤ). getD l 0 (pos 0) ∷ t)
+      (drop-cons l 1 (pos 0) (omega arith) ∙ ap (λ (t : List ℤ). getD l 1 (pos 0) ∷ t) (drop-of-length-le l {i = 2} (omega arith)))
+
+  pub held-none : s .count ≡ 0 → held s ≡ []
+  unfolding held
+  held-none e = rw e
+
+  pub held-one : s .count ≡ 1 → held s ≡ getD (s .tokens) 0 (pos 0) ∷ []
+  unfolding held
+  held-one e = rw e (ap (λ (t : List ℤ). take 1 t) both)
+
+  pub held-two : 2 ≤ s .count → held s ≡ getD (s .tokens) 0 (pos 0) ∷ getD (s .tokens) 1 (pos 0) ∷ []
+  unfolding held
+  held-two h = take-all (s .count) (s .tokens) (omega arith) ∙ both
+
+  -- so its link, its stop and its next cycle are those of its tokens
+  pub link-held : 1 ≤ s .count → linkOf (held s) ≡ record { valid = true; value = getD (s .tokens) 0 (pos 0) }
+  unfolding linkOf
+  link-held h =
+      ⊎-elim
+      (λ (l : s .count < 2). let e : s .count ≡ 1 = omega arith in rw (held-one e))
+      (λ (l : 2 ≤ s .count). rw (held-two l))
+      (lt-or-ge (s .count) 2)
+
+  few : s .count < 2 → two (held s) ≡ false
+  few l =
+      ⊎-elim
+      (λ (z : s .count < 1). let e : s .count ≡ 0 = omega arith in rw (held-none e))
+      (λ (z : 1 ≤ s .count). let e : s .count ≡ 1 = omega arith in rw (held-one e))
+      (lt-or-ge (s .count) 1)
+
+  pub full-held : two (held s) ≡ leb 2 (s .count)
+  full-held =
+      ⊎-elim
+      (λ (l : s .count < 2). rw (lt-leb 2 (s .count) l) (few l))
+      (λ (l : 2 ≤ s .count). rw (held-two l, le-leb 2 (s .count) l))
+      (lt-or-ge (s .count) 2)
+
+  -- a station that is not full, and keeps no token, holds what passes
+  pub after-clear : (link : List ℤ) (stop : Bool) → s .count < 2 → eqb (s .count) 1 && stop ≡ false → placeAfter link (held s) stop ≡ link
+  unfolding placeAfter
+  after-clear link stop l e =
+      ⊎-elim
+      (λ (z : s .count < 1). let q : s .count ≡ 0 = omega arith in rw (held-none q) (nothing stop))
+      (λ (z : 1 ≤ s .count). let q : s .count ≡ 1 = omega arith in rw (held-one q) (rw (rw (eq-eqb (s .count) 1 q) at e)))
+      (lt-or-ge (s .count) 1)
+    where
+      nothing : (stop : Bool) → dropIf (not stop) [] ++ link ≡ link
+      nothing true = refl
+      nothing false = refl
