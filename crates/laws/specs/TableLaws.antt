@@ -1,12 +1,12 @@
 -- Laws of tables. Assumes nothing.
-use mathlib.Core.List.{List, [], _∷_, append-assoc}
+use mathlib.Core.List.{List, [], _∷_, map, append-assoc}
 use mathlib.Core.Logic.{⊎-elim}
-use mathlib.Core.Path.{_≡_, refl, _∙_}
+use mathlib.Core.Path.{_≡_, refl, sym, _∙_}
 use Prim.Native.Nat.{ℕ, zero, suc, _<_, _≤_}
 use native.Mathlib.Nat.{not-suc-le-zero}
 use native.Mathlib.Omega.{arith}
-use lib.ListN.{length, getD, set, drop, length-append, length-drop, List·getD-append}
-use lib.Seq.{drop-cons, getD-at, set-at}
+use lib.ListN.{length, getD, set, drop, length-append, length-drop, length-map, List·getD-append, List·getD-map}
+use lib.Seq.{drop-cons, getD-at, set-at, ext-getD}
 use Rattle.laws.specs.Cases.{below-suc}
 use Rattle.laws.specs.Table.{table, tableOver}
 
@@ -42,3 +42,10 @@ module _ {A : Type 0} where
   pub length-over : (f : ℕ → A) (n : ℕ) (l : List A) → n ≤ length l → length (tableOver f n l) ≡ length l
   unfolding tableOver
   length-over f n l h = rw (length-append, length-table, length-drop) (omega arith)
+
+-- a table of a list's own elements
+pub table-map : {A B : Type 0} (g : A → B) (l : List A) (d : A) → table (λ i. g (getD l i d)) (length l) ≡ map g l
+table-map {B = B} g l d =
+    let f : ℕ → B = λ i. g (getD l i d) in
+    ext-getD (g d) (table f (length l)) (map g l) (length-table f (length l) ∙ sym (length-map l g))
+    (λ i h. table-at f (length l) i (g d) (rw (← (length-table f (length l))) h) ∙ sym (List·getD-map g l i d))

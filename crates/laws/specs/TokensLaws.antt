@@ -1,13 +1,15 @@
 -- Laws of tests on lists and of padded lists. Assumes nothing.
 use mathlib.Core.Bool.{Bool, true, false, false≢true}
 use mathlib.Core.List.{List, [], _∷_, _++_, append-assoc, append-nil}
+use mathlib.Core.Logic.{⊎-elim}
 use mathlib.Core.Path.{_≡_, refl, ap, sym, _∙_}
-use Prim.Native.Nat.{ℕ, zero, suc, _+_, _-_, _<_, _≤_}
+use Prim.Native.Nat.{ℕ, zero, suc, _+_, _-_, _<_, _≤_, min}
 use native.Mathlib.Nat.{not-suc-le-zero}
 use native.Mathlib.Numerals.{add-one}
 use native.Mathlib.Omega.{arith}
-use lib.ListN.{length, getD, take, drop, set, replicate, length-append, length-replicate, replicate-append-replicate, List·getD-eq-default, getD-replicate}
-use lib.Seq.{take-append-seam, set-append-seam, append-snoc, getD-append-add}
+use lib.ListN.{length, getD, take, drop, set, replicate, length-append, length-replicate, replicate-append-replicate, drop-of-length-le}
+use lib.Seq.{take-all, take-length, drop-length, take-append-seam, set-append-seam, append-snoc, getD-append-add}
+use Rattle.laws.specs.Cases.{lt-or-ge}
 use Rattle.laws.specs.Tokens.{some, two, oneIf, dropIf, padded}
 
 module _ {A : Type 0} where
@@ -33,6 +35,21 @@ module _ {A : Type 0} where
   pub oneIf-some : (b : Bool) (x : A) → some (oneIf b x) ≡ b
   oneIf-some true x = refl
   oneIf-some false x = refl
+
+  -- past its end a list has no more
+  pub take-min : (n : ℕ) (xs : List A) → take n xs ≡ take (min n (length xs)) xs
+  take-min n xs =
+      ⊎-elim
+      (λ (h : n < length xs). let e : min n (length xs) ≡ n = omega arith in rw e)
+      (λ (h : length xs ≤ n). let e : min n (length xs) ≡ length xs = omega arith in rw (e, take-all n xs h, take-length))
+      (lt-or-ge n (length xs))
+
+  pub drop-min : (n : ℕ) (xs : List A) → drop n xs ≡ drop (min n (length xs)) xs
+  drop-min n xs =
+      ⊎-elim
+      (λ (h : n < length xs). let e : min n (length xs) ≡ n = omega arith in rw e)
+      (λ (h : length xs ≤ n). let e : min n (length xs) ≡ length xs = omega arith in rw (e, drop-of-length-le xs h, drop-length))
+      (lt-or-ge n (length xs))
 
   -- ---- padded lists: the elements come back, and what follows them is d
   pub length-padded : (n : ℕ) (d : A) (xs : List A) → length xs ≤ n → length (padded n d xs) ≡ n

@@ -1,12 +1,12 @@
 -- Laws of links. Assumes nothing.
-use mathlib.Core.Bool.{Bool, true, false}
+use mathlib.Core.Bool.{Bool, true, false, not, _&&_}
 use mathlib.Core.List.{List, [], _∷_, _++_, append-nil}
 use mathlib.Core.Path.{_≡_, refl, ap}
 use Prim.Native.Nat.{ℕ, _≤_}
 use native.Mathlib.Omega.{arith}
 use lib.IntN.{ℤ}
 use lib.ListN.{length, take}
-use Rattle.laws.specs.Tokens.{some}
+use Rattle.laws.specs.Tokens.{some, oneIf}
 use Rattle.laws.specs.TokensLaws.{oneIf-few, oneIf-some}
 use Rattle.relay.specs.declared.Link.{Link}
 use Rattle.relay.specs.Link.{token, linkOf, passing, staying}
@@ -31,6 +31,12 @@ unfolding token linkOf
 token-of [] = refl
 token-of (x ∷ xs) = refl
 
+-- and shows no other
+pub linkOf-take : (place : List ℤ) → linkOf (take 1 place) ≡ linkOf place
+unfolding linkOf
+linkOf-take [] = refl
+linkOf-take (x ∷ place) = refl
+
 pub take-few : (place : List ℤ) → length (take 1 place) ≤ 1
 take-few [] = omega arith
 take-few (x ∷ place) = omega arith
@@ -43,3 +49,14 @@ passing-staying link false = append-nil link
 pub passing-few : (link : List ℤ) (stop : Bool) → length (passing link stop) ≤ length link
 passing-few link true = omega arith
 passing-few link false = omega arith
+
+-- a token passes exactly when the link is valid and not stopped
+passing-flag : (valid stop : Bool) (x : ℤ) → some (passing (oneIf valid x) stop) ≡ valid && not stop
+passing-flag true true x = refl
+passing-flag true false x = refl
+passing-flag false true x = refl
+passing-flag false false x = refl
+
+pub passing-some : (link : Link) (stop : Bool) → some (passing (token link) stop) ≡ link .valid && not stop
+unfolding token
+passing-some link stop = passing-flag (link .valid) stop (link .value)

@@ -52,6 +52,11 @@ unfoldable pub linkAt : List ℤ → List (List ℤ) → ℕ → List ℤ
 linkAt link row zero = link
 linkAt link row (suc j) = take 1 (getD row j [])
 
+pub link-few : (link : List ℤ) (row : List (List ℤ)) (j : ℕ) → length link ≤ 1 → length (linkAt link row j) ≤ 1
+unfolding linkAt
+link-few link row zero h = h
+link-few link row (suc j) h = take-few (getD row j [])
+
 pub length-after : (link : List ℤ) (row : List (List ℤ)) (stop : Bool) → length (rowAfter link row stop) ≡ length row
 unfolding rowAfter
 length-after link [] stop = refl

@@ -1,12 +1,15 @@
 // Relay stations, by value: a link, one station in a cycle, and a row of up to eight.
 ghost use mathlib.Core.List.{[], _∷_};
 ghost use mathlib.Core.Path.{_≡_};
-ghost use Prim.Native.Nat.{_≤_, _<_};
+ghost use Prim.Native.Nat.{_≤_, _<_, min};
+ghost use lib.ListN.{drop};
 ghost use Rattle.laws.specs.Tokens.{two};
 ghost use Rattle.relay.specs.Link.{token, linkOf, letter, reading};
 ghost use Rattle.relay.specs.Station.{held, stationOf, placeAfter};
+ghost use Rattle.relay.specs.Row.{stopped};
+ghost use Rattle.relay.specs.RowLaws.{linkAt};
 ghost use Rattle.relay.specs.RowCycle.{places, rowCycle};
-
+ghost use Rattle.relay.specs.RowCycleLaws.{stationAfter};
 
 // What a link shows: a token while it is valid. The value of a void link is not looked at.
 pub struct Link {
@@ -131,5 +134,71 @@ impl Station {
             return Station::one(link.value);
         }
         Station::empty()
+    }
+}
+
+// A row's length as an index bound: eight at most.
+fn within(length: u8) -> usize
+    ensures { λ r. ⌜ (r ≡ min length 8) × (r ≤ 8) ⌝ }
+{
+    if length < 8 { length as usize } else { 8 }
+}
+
+impl Row {
+    // How many stations a row has places for.
+    pub const LENGTH: u8 = 8;
+
+    // What link j shows: link 0 as given, link j above 0 by the station before it.
+    fn link_at(self, link: Link, j: usize) -> Link
+        requires { ⌜ j ≤ 8 ⌝ }
+        ensures { λ r. ⌜ r ≡ linkOf (linkAt (token link) (places self 8) j) ⌝ }
+    {
+        if j == 0 {
+            return link.shown();
+        }
+        let station = self.stations[j - 1];
+        station.link()
+    }
+
+    // Whether link j of the first n stations is stopped: by the station after it, or as given.
+    fn stop_at(self, n: usize, stop: bool, j: usize) -> bool
+        requires { ⌜ n ≤ 8 ⌝ }
+        ensures { λ r. ⌜ r ≡ stopped (drop j (places self n)) stop ⌝ }
+    {
+        if j < n {
+            let station = self.stations[j];
+            return station.full();
+        }
+        stop
+    }
+
+    // Station j of the first n after the cycle.
+    fn station_after(self, n: usize, link: Link, stop: bool, j: usize) -> Station
+        requires { ⌜ (n ≤ 8) × (j < n) ⌝ }
+        ensures { λ r. ⌜ r ≡ stationAfter self n link stop j ⌝ }
+    {
+        let station = self.stations[j];
+        let above = self.link_at(link, j);
+        let below = self.stop_at(n, stop, j + 1);
+        station.after(above, below)
+    }
+
+    // One cycle of the first `length` stations, all of them if it is over eight, from the link that
+    // enters the row and the stop on the one that leaves it. Every station is worked from the row
+    // as it was.
+    pub fn cycle(self, length: u8, link: Link, stop: bool) -> RowCycle
+        ensures { λ r. ⌜ r ≡ rowCycle self length link stop ⌝ }
+    {
+        let n = within(length);
+        let mut row = self;
+        let mut j: usize = 0;
+        while j < n {
+            let station = self.station_after(n, link, stop, j);
+            row.stations[j] = station;
+            j += 1;
+        }
+        let leaving = self.link_at(link, n);
+        let held_up = self.stop_at(n, stop, 0);
+        RowCycle { row, leaving, taken: link.valid & !held_up }
     }
 }
