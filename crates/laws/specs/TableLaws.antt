@@ -43,7 +43,13 @@ module _ {A : Type 0} where
   unfolding tableOver
   length-over f n l h = rw (length-append, length-table, length-drop) (omega arith)
 
--- a table of a list's own elements
+-- a list is the table of its own elements
+pub table-own : {A : Type 0} (l : List A) (d : A) → l ≡ table (λ i. getD l i d) (length l)
+table-own {A = A} l d =
+    let f : ℕ → A = λ i. getD l i d in
+    ext-getD d l (table f (length l)) (sym (length-table f (length l))) (λ i h. sym (table-at f (length l) i d h))
+
+-- and of what a function makes of them
 pub table-map : {A B : Type 0} (g : A → B) (l : List A) (d : A) → table (λ i. g (getD l i d)) (length l) ≡ map g l
 table-map {B = B} g l d =
     let f : ℕ → B = λ i. g (getD l i d) in

@@ -1,11 +1,12 @@
 -- Laws of links. Assumes nothing.
-use mathlib.Core.Bool.{Bool, true, false, not, _&&_}
+use mathlib.Core.Bool.{Bool, true, false, not, _&&_, false≢true}
 use mathlib.Core.List.{List, [], _∷_, _++_, append-nil}
 use mathlib.Core.Path.{_≡_, refl, ap}
-use Prim.Native.Nat.{ℕ, _≤_}
+use Prim.Native.Nat.{ℕ, zero, suc, _<_, _≤_}
+use native.Mathlib.Nat.{not-suc-le-zero}
 use native.Mathlib.Omega.{arith}
-use lib.IntN.{ℤ}
-use lib.ListN.{length, take}
+use lib.IntN.{ℤ, pos}
+use lib.ListN.{length, getD, take}
 use Rattle.laws.specs.Tokens.{some, oneIf}
 use Rattle.laws.specs.TokensLaws.{oneIf-few, oneIf-some}
 use Rattle.relay.specs.declared.Link.{Link}
@@ -31,7 +32,24 @@ unfolding token linkOf
 token-of [] = refl
 token-of (x ∷ xs) = refl
 
--- and shows no other
+-- the same from a record's places: n of them hold a token
+pub link-take : (n : ℕ) (l : List ℤ) → 0 < n → 0 < length l → linkOf (take n l) ≡ record { valid = true; value = getD l 0 (pos 0) }
+unfolding linkOf
+link-take zero l h k = absurd (not-suc-le-zero h)
+link-take (suc n) [] h k = absurd (not-suc-le-zero k)
+link-take (suc n) (x ∷ l) h k = refl
+
+-- what stands behind the oldest token is not shown
+pub link-first : (xs ys : List ℤ) → linkOf xs .valid ≡ true → linkOf (xs ++ ys) ≡ linkOf xs
+unfolding linkOf
+link-first [] ys e = absurd (false≢true e)
+link-first (x ∷ xs) ys e = refl
+
+pub valid-some : (xs : List ℤ) → linkOf xs .valid ≡ true → some xs ≡ true
+unfolding linkOf
+valid-some [] e = e
+valid-some (x ∷ xs) e = refl
+
 pub linkOf-take : (place : List ℤ) → linkOf (take 1 place) ≡ linkOf place
 unfolding linkOf
 linkOf-take [] = refl

@@ -6,7 +6,7 @@ use Prim.Native.Nat.{ℕ, zero, suc, _<_, _≤_}
 use native.Mathlib.Nat.{not-suc-le-zero, le-of-suc-le-suc}
 use native.Mathlib.Omega.{arith}
 use lib.IntN.{ℤ}
-use lib.ListN.{length, getD, take, drop, drop-of-length-le}
+use lib.ListN.{length, getD, take, drop, take-append-drop, drop-of-length-le}
 use lib.Seq.{drop-cons}
 use Rattle.laws.specs.Tokens.{some, two, dropIf}
 use Rattle.relay.specs.Link.{passing}
@@ -36,6 +36,24 @@ row-fifo link (place ∷ row) stop =
     ∙ ap (λ (t : List ℤ). contents row ++ t)
     (sym (append-assoc (passing (take 1 place) s) (dropIf (not s) place) enters) ∙ ap (λ (t : List ℤ). t ++ enters) (hand-on place s))
     ∙ sym (append-assoc (contents row) place enters)
+
+-- the tokens behind the one that the leaving link shows
+unfoldable pub behind : List ℤ → List (List ℤ) → List ℤ
+behind link [] = []
+behind link (place ∷ row) = behind (take 1 place) row ++ (drop 1 place ++ link)
+
+-- what the leaving link shows is the oldest of all
+pub leaving-first : (link : List ℤ) (row : List (List ℤ)) → contents row ++ link ≡ leaving link row ++ behind link row
+unfolding leaving contents behind
+leaving-first link [] = sym (append-nil link)
+leaving-first link (place ∷ row) =
+    let first = take 1 place in
+    append-assoc (contents row) place link
+    ∙ ap (λ (t : List ℤ). contents row ++ (t ++ link)) (sym (take-append-drop 1 place))
+    ∙ ap (λ (t : List ℤ). contents row ++ t) (append-assoc first (drop 1 place) link)
+    ∙ sym (append-assoc (contents row) first (drop 1 place ++ link))
+    ∙ ap (λ (t : List ℤ). t ++ (drop 1 place ++ link)) (leaving-first first row)
+    ∙ append-assoc (leaving first row) (behind first row) (drop 1 place ++ link)
 
 -- no place holds more than two
 pub row-few :

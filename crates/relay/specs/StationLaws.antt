@@ -9,13 +9,16 @@ use native.Mathlib.Omega.{arith}
 use borrow.Author.Tests.{lt-leb, le-leb, eq-eqb}
 use lib.Dec.{leb, eqb}
 use lib.IntN.{ℤ, pos}
-use lib.ListN.{length, getD, take, drop-of-length-le}
-use lib.Seq.{drop-cons, take-all}
+use lib.ListN.{length, getD, take}
+use lib.Seq.{take-all}
 use Rattle.laws.specs.Cases.{lt-or-ge}
+use Rattle.laws.specs.Table.{table}
+use Rattle.laws.specs.TableLaws.{table-own}
 use Rattle.laws.specs.Tokens.{two, dropIf, padded}
 use Rattle.laws.specs.TokensLaws.{take-padded, padded-rest, length-padded}
 use Rattle.relay.specs.declared.Station.{Station}
 use Rattle.relay.specs.Link.{linkOf, passing}
+use Rattle.relay.specs.LinkLaws.{link-take}
 use Rattle.relay.specs.Station.{held, stationOf, placeAfter}
 
 -- what is stored is what is held
@@ -48,11 +51,8 @@ place-few link (x ∷ y ∷ z ∷ place) stop l h = absurd (not-suc-le-zero {n =
 -- ---- the tokens that a record of two places holds, by its count
 module _ (s : Station) (long : length (s .tokens) ≡ 2) where
   both : s .tokens ≡ getD (s .tokens) 0 (pos 0) ∷ getD (s .tokens) 1 (pos 0) ∷ []
-  both =
-      let l = s .tokens in
-      drop-cons l 0 (pos 0) (omega arith)
-      ∙ ap (λ (t : List ℤ). getD l 0 (pos 0) ∷ t)
-      (drop-cons l 1 (pos 0) (omega arith) ∙ ap (λ (t : List ℤ). getD l 1 (pos 0) ∷ t) (drop-of-length-le l {i = 2} (omega arith)))
+  unfolding table
+  both = table-own (s .tokens) (pos 0) ∙ ap (table (λ (i : ℕ). getD (s .tokens) i (pos 0))) long
 
   pub held-none : s .count ≡ 0 → held s ≡ []
   unfolding held
@@ -67,13 +67,9 @@ module _ (s : Station) (long : length (s .tokens) ≡ 2) where
   held-two h = take-all (s .count) (s .tokens) (omega arith) ∙ both
 
   -- so its link, its stop and its next cycle are those of its tokens
-  pub link-held : 1 ≤ s .count → linkOf (held s) ≡ record { valid = true; value = getD (s .tokens) 0 (pos 0) }
-  unfolding linkOf
-  link-held h =
-      ⊎-elim
-      (λ (l : s .count < 2). let e : s .count ≡ 1 = omega arith in rw (held-one e))
-      (λ (l : 2 ≤ s .count). rw (held-two l))
-      (lt-or-ge (s .count) 2)
+  pub link-held : 0 < s .count → linkOf (held s) ≡ record { valid = true; value = getD (s .tokens) 0 (pos 0) }
+  unfolding held
+  link-held h = link-take (s .count) (s .tokens) h (omega arith)
 
   few : s .count < 2 → two (held s) ≡ false
   few l =

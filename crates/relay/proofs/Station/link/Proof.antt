@@ -1,7 +1,7 @@
 -- `relay::Station::link` meets its contract: a station that holds a token shows its first. Assumes nothing.
 use native.Mathlib.Omega.{arith}
 use mathlib.Core.Path.{_≡_}
-use Prim.Native.Nat.{_≤_}
+use Prim.Native.Nat.{_<_}
 use lib.IntN.{pos}
 use lib.ListN.{length, getD}
 use mir.Facts.{toZ-ofZ}
@@ -24,7 +24,7 @@ element-copy-out-oldest c = search needs
 
 returns-2 : tie.Need-returns-2
 returns-2 c = let s = c .before .before in
-    let h : 1 ≤ s .args .t1 .count = omega arith in
+    let h : 0 < s .args .t1 .count = omega arith in
     rw (link-held (s .args .t1) (long s) h, toZ-ofZ (told (getD (s .args .t1 .tokens) 0 (pos 0)) (c .oldest .given)))
 
 pub link-spec : {M : Type 1} → statement M

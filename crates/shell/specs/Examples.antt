@@ -1,0 +1,1 @@
+-- Laws. Assumes nothing.
