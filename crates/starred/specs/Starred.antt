@@ -1,0 +1,59 @@
+-- "The starred edges are one proved table, settled by one claim on the definitions." One count node for three cycles joins it with the engine.
+use mathlib.Core.Bool.{true, false}
+use mathlib.Core.List.{List, [], _∷_, map}
+use mathlib.Core.Path.{_≡_, refl}
+use lib.IntN.{ℤ, pos}
+use lib.ListN.{replicate}
+use Rattle.laws.specs.Signed.{signed}
+use Rattle.laws.specs.Tokens.{padded}
+use Rattle.pearl.specs.Wrap.{wrap}
+use Rattle.pearl.specs.Next.{halve, larger, choose, exact, nextValue}
+use Rattle.relay.specs.declared.Link.{Link}
+use Rattle.relay.specs.declared.Row.{Row}
+use Rattle.relay.specs.declared.RowCycle.{RowCycle}
+use Rattle.relay.specs.Link.{token, linkOf, letter, reading}
+use Rattle.relay.specs.Station.{held, stationOf, placeAfter}
+use Rattle.relay.specs.Row.{stopped, leaving, rowAfter}
+use Rattle.relay.specs.RowCycle.{places, rowCycle}
+use Rattle.shell.specs.Queue.{waiting, queueOf, full, pushed, popped, queueAfter}
+use Rattle.starred.specs.declared.Edge.{Edge}
+use Rattle.starred.specs.Edges.{edges, given}
+
+-- a row of which the first station holds these tokens; a token offered on a link
+abbrev first : List ℤ → Row
+first tokens = record { stations = stationOf tokens ∷ replicate 7 (stationOf []) }
+
+abbrev offered : ℤ → Link
+offered v = record { valid = true; value = v }
+
+-- one station in a cycle without a stop below it, to which v is offered
+abbrev relayed : List ℤ → ℤ → RowCycle
+relayed tokens v = rowCycle (first tokens) 1 (offered v) false
+
+-- every starred edge; a, b and v are any values
+pub record Starred : Type 0 where
+  pub arithmetic : map given edges ≡ map (λ e. e .expected) edges
+
+  -- "a full station, no stop below, token offered: hands on the older, takes none, holds one"
+  pub full-station : (a b v : ℤ) → relayed (a ∷ b ∷ []) v ≡ record { row = first (b ∷ []); leaving = offered a; taken = false }
+
+  -- "an empty station, no stop below, token offered: shows I, takes it"
+  pub empty-station : (v : ℤ) → relayed [] v ≡ record { row = first (v ∷ []); leaving = linkOf []; taken = true }
+  pub shows-i : reading (linkOf []) false ≡ record { letter = 73; value = pos 0 }
+
+  -- "an empty queue of depth 1 whose node fires on arrival stays empty": the link is not stopped, v is the node's input, and the queue is empty after
+  pub empty-queue : (v : ℤ) → (full 1 0 ≡ false) × (queueAfter (queueOf []) (v ∷ []) true ≡ queueOf [])
+
+pub starred : Starred
+unfolding signed padded
+  wrap halve larger choose exact nextValue
+  token linkOf letter reading held stationOf placeAfter stopped leaving rowAfter places rowCycle
+  waiting queueOf full pushed popped queueAfter
+starred =
+    record {
+      arithmetic = refl;
+      full-station = λ a b v. refl;
+      empty-station = λ v. refl;
+      shows-i = refl;
+      empty-queue = λ v. (refl, refl);
+    }
