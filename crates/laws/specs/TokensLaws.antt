@@ -7,10 +7,10 @@ use Prim.Native.Nat.{ℕ, zero, suc, _+_, _-_, _<_, _≤_, min}
 use native.Mathlib.Nat.{not-suc-le-zero}
 use native.Mathlib.Numerals.{add-one}
 use native.Mathlib.Omega.{arith}
-use lib.ListN.{length, getD, take, drop, set, replicate, length-append, length-replicate, replicate-append-replicate, drop-of-length-le}
-use lib.Seq.{take-all, take-length, drop-length, take-append-seam, set-append-seam, append-snoc, getD-append-add}
+use lib.ListN.{length, getD, take, drop, set, replicate, length-append, length-replicate, replicate-append-replicate, length-take, drop-of-length-le, List·getD-append}
+use lib.Seq.{take-all, take-length, drop-length, take-append-seam, set-append-seam, append-snoc, getD-append-add, getD-take, ext-getD}
 use Rattle.laws.specs.Cases.{lt-or-ge}
-use Rattle.laws.specs.Tokens.{some, two, oneIf, dropIf, padded}
+use Rattle.laws.specs.Tokens.{some, oneIf, dropIf, padded, Stored}
 
 module _ {A : Type 0} where
   -- what is dropped comes from the first of two lists, where that has an element
@@ -86,3 +86,25 @@ module _ {A : Type 0} where
       let e : n - suc (length xs) + 1 ≡ n - length xs = omega arith in
       append-assoc xs (replicate (n - suc (length xs)) d) (d ∷ [])
       ∙ ap (λ (t : List A). xs ++ t) (replicate-append-replicate (n - suc (length xs)) 1 d ∙ ap (λ (k : ℕ). replicate k d) e)
+
+  -- a padded list is so stored, and what is so stored is its own elements, padded
+  pub stored-padded : (n : ℕ) (d : A) (xs : List A) → length xs ≤ n → Stored n d (padded n d xs) (length xs)
+  stored-padded n d xs h = record { few = h; long = length-padded n d xs h; rest = λ k l. padded-rest n d xs k l }
+
+  pub stored-count : (n : ℕ) (d : A) (l : List A) (count : ℕ) → Stored n d l count → length (take count l) ≡ count
+  stored-count n d l count s = rw (length-take, s .long) (omega (arith, s .few))
+
+  pub stored-own : (n : ℕ) (d : A) (l : List A) (count : ℕ) → Stored n d l count → l ≡ padded n d (take count l)
+  unfolding padded
+  stored-own n d l count s =
+      let xs = take count l in
+      let k = stored-count n d l count s in
+      let j : length xs ≤ n = omega (arith, s .few) in
+      ext-getD d l (padded n d xs) (s .long ∙ sym (length-padded n d xs j))
+      (λ i h.
+        ⊎-elim
+        (λ (g : i < count).
+          let m : i < length xs = omega arith in
+          sym (List·getD-append xs (replicate (n - length xs) d) d i m ∙ getD-take count l i d g))
+        (λ (g : count ≤ i). let m : length xs ≤ i = omega arith in s .rest i g ∙ sym (padded-rest n d xs i m))
+        (lt-or-ge i count))

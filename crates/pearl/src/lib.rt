@@ -18,12 +18,15 @@ fn wrapped(exact: i64) -> Next
     ensures { λ r. ⌜ r ≡ fired exact ⌝ }
 {
     if exact > 2147483647 {
-        return Next { number: 0, value: (exact - 4294967296) as i32 };
+        let down = (exact - 4294967296) as i32;
+        return Next { number: 0, value: down };
     }
     if exact < -2147483648 {
-        return Next { number: 0, value: (exact + 4294967296) as i32 };
+        let up = (exact + 4294967296) as i32;
+        return Next { number: 0, value: up };
     }
-    Next { number: 0, value: exact as i32 }
+    let same = exact as i32;
+    Next { number: 0, value: same }
 }
 
 fn added(a: i32, b: i32) -> Next

@@ -5,14 +5,14 @@ use mathlib.Core.Path.{_≡_, refl, sym, ap, _∙_}
 use Prim.Native.Nat.{ℕ, zero, suc, _<_, _≤_}
 use native.Mathlib.Nat.{not-suc-le-zero, le-of-suc-le-suc}
 use native.Mathlib.Omega.{arith}
-use lib.IntN.{ℤ}
+use lib.IntN.{ℤ, pos}
 use lib.ListN.{length, getD, take, drop, take-append-drop, drop-of-length-le}
 use lib.Seq.{drop-cons}
-use Rattle.laws.specs.Tokens.{some, two, dropIf}
+use Rattle.laws.specs.Tokens.{two, dropIf, Stored}
 use Rattle.relay.specs.Link.{passing}
 use Rattle.relay.specs.LinkLaws.{take-few}
-use Rattle.relay.specs.Station.{placeAfter}
-use Rattle.relay.specs.StationLaws.{place-few}
+use Rattle.relay.specs.Station.{stationOf, placeAfter}
+use Rattle.relay.specs.StationLaws.{place-few, station-stored}
 use Rattle.relay.specs.Row.{stopped, leaving, rowAfter, contents}
 
 -- a place hands on its oldest token or keeps it
@@ -63,6 +63,12 @@ unfolding rowAfter
 row-few link [] stop l h j = omega arith
 row-few link (place ∷ row) stop l h zero = place-few link place (stopped row stop) l (h 0)
 row-few link (place ∷ row) stop l h (suc j) = row-few (take 1 place) row stop (take-few place) (λ k. h (suc k)) j
+
+-- and every unused place is 0
+pub row-stored :
+    (link : List ℤ) (row : List (List ℤ)) (stop : Bool) → length link ≤ 1 → ((j : ℕ) → length (getD row j []) ≤ 2)
+    → (j : ℕ) → let s = stationOf (getD (rowAfter link row stop) j []) in Stored 2 (pos 0) (s .tokens) (s .count)
+row-stored link row stop l h j = station-stored (getD (rowAfter link row stop) j []) (row-few link row stop l h j)
 
 -- ---- by index
 -- what link j shows: "Link j above 0 is valid while station j holds a token, and shows the oldest"

@@ -2,40 +2,30 @@
 use mathlib.Core.Bool.{Bool, true, false, not, _&&_}
 use mathlib.Core.Logic.{⊎-elim}
 use mathlib.Core.List.{List, [], _∷_, _++_, append-nil}
-use mathlib.Core.Path.{_≡_, refl, ap, _∙_}
+use mathlib.Core.Path.{_≡_, refl, sym, ap, ap₂, _∙_}
 use Prim.Native.Nat.{ℕ, suc, _≤_, _<_}
 use native.Mathlib.Nat.{not-suc-le-zero}
 use native.Mathlib.Omega.{arith}
 use borrow.Author.Tests.{lt-leb, le-leb, eq-eqb}
 use lib.Dec.{leb, eqb}
 use lib.IntN.{ℤ, pos}
-use lib.ListN.{length, getD, take}
+use lib.ListN.{length, getD, take, length-take}
 use lib.Seq.{take-all}
 use Rattle.laws.specs.Cases.{lt-or-ge}
 use Rattle.laws.specs.Table.{table}
 use Rattle.laws.specs.TableLaws.{table-own}
-use Rattle.laws.specs.Tokens.{two, dropIf, padded}
-use Rattle.laws.specs.TokensLaws.{take-padded, padded-rest, length-padded}
+use Rattle.laws.specs.Tokens.{two, dropIf, Stored}
+use Rattle.laws.specs.TokensLaws.{take-padded, stored-padded, stored-own, stored-count}
+use Rattle.relay.specs.declared.Link.{Link}
 use Rattle.relay.specs.declared.Station.{Station}
-use Rattle.relay.specs.Link.{linkOf, passing}
-use Rattle.relay.specs.LinkLaws.{link-take}
+use Rattle.relay.specs.Link.{token, linkOf}
+use Rattle.relay.specs.LinkLaws.{link-take, token-few}
 use Rattle.relay.specs.Station.{held, stationOf, placeAfter}
 
 -- what is stored is what is held
 pub held-of : (tokens : List ℤ) → held (stationOf tokens) ≡ tokens
 unfolding held stationOf
 held-of tokens = take-padded 2 (pos 0) tokens
-
--- a station that has at most two tokens, and 0 in every place that holds none
-pub record Sound (s : Station) : Type 0 where
-  pub few : s .count ≤ 2
-  pub long : length (s .tokens) ≡ 2
-  pub rest : (k : ℕ) → s .count ≤ k → getD (s .tokens) k (pos 0) ≡ pos 0
-
-pub sound-of : (tokens : List ℤ) → length tokens ≤ 2 → Sound (stationOf tokens)
-unfolding stationOf
-sound-of tokens h =
-    record { few = h; long = length-padded 2 (pos 0) tokens h; rest = λ k l. padded-rest 2 (pos 0) tokens k l }
 
 -- never more than two, whatever the link shows and whether it is stopped
 pub place-few : (link place : List ℤ) (stop : Bool) → length link ≤ 1 → length place ≤ 2 → length (placeAfter link place stop) ≤ 2
@@ -47,6 +37,18 @@ place-few link (x ∷ []) false l h = omega arith
 place-few link (x ∷ y ∷ []) true l h = omega arith
 place-few link (x ∷ y ∷ []) false l h = omega arith
 place-few link (x ∷ y ∷ z ∷ place) stop l h = absurd (not-suc-le-zero {n = 0} (omega arith))
+
+-- a record whose unused places are 0 is what its tokens write, and the other way round
+pub station-own : (s : Station) → Stored 2 (pos 0) (s .tokens) (s .count) → s ≡ stationOf (held s)
+unfolding held stationOf
+station-own s h =
+    ap₂ {C = Station} (λ (t : List ℤ) (n : ℕ). record { tokens = t; count = n })
+    (stored-own 2 (pos 0) (s .tokens) (s .count) h)
+    (sym (stored-count 2 (pos 0) (s .tokens) (s .count) h))
+
+pub station-stored : (xs : List ℤ) → length xs ≤ 2 → Stored 2 (pos 0) (stationOf xs .tokens) (stationOf xs .count)
+unfolding stationOf
+station-stored xs h = stored-padded 2 (pos 0) xs h
 
 -- ---- the tokens that a record of two places holds, by its count
 module _ (s : Station) (long : length (s .tokens) ≡ 2) where
@@ -97,3 +99,14 @@ module _ (s : Station) (long : length (s .tokens) ≡ 2) where
       nothing : (stop : Bool) → dropIf (not stop) [] ++ link ≡ link
       nothing true = refl
       nothing false = refl
+
+  -- whatever stood in it, after a cycle it has two tokens at most, and 0 in every place that holds none
+  held-few : length (held s) ≤ 2
+  unfolding held
+  held-few = rw (length-take, long) (omega arith)
+
+  pub after-stored :
+      (link : Link) (stop : Bool)
+      → let after = stationOf (placeAfter (token link) (held s) stop) in Stored 2 (pos 0) (after .tokens) (after .count)
+  after-stored link stop =
+      station-stored (placeAfter (token link) (held s) stop) (place-few (token link) (held s) stop (token-few link) held-few)

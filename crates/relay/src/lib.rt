@@ -99,8 +99,8 @@ impl Station {
         if self.count == 0 {
             return Link { valid: false, value: 0 };
         }
-        let oldest = self.tokens[0];
-        Link { valid: true, value: oldest }
+        let shown = self.tokens[0];
+        Link { valid: true, value: shown }
     }
 
     // Whether it holds two tokens, which stops the link that enters it.

@@ -13,8 +13,8 @@ use lib.ListN.{length, getD, drop, set, length-append, drop-of-length-le}
 use Rattle.laws.specs.Table.{table}
 use Rattle.laws.specs.TableLaws.{table-own}
 use Rattle.laws.specs.Choice.{_if_else_}
-use Rattle.laws.specs.Tokens.{oneIf, dropIf}
-use Rattle.laws.specs.TokensLaws.{take-padded, length-padded, padded-rest, padded-set, padded-drop}
+use Rattle.laws.specs.Tokens.{oneIf, dropIf, Stored}
+use Rattle.laws.specs.TokensLaws.{take-padded, padded-set, padded-drop, stored-padded, stored-own, stored-count}
 use Rattle.relay.specs.declared.Link.{Link}
 use Rattle.relay.specs.Link.{token, linkOf, passing}
 use Rattle.relay.specs.LinkLaws.{link-take, link-first}
@@ -26,15 +26,17 @@ pub waiting-of : (xs : List ℤ) → waiting (queueOf xs) ≡ xs
 unfolding waiting queueOf
 waiting-of xs = take-padded 8 (pos 0) xs
 
--- a queue that has at most eight tokens, and 0 in every place that holds none
-pub record Sound (q : Queue) : Type 0 where
-  pub few : q .count ≤ 8
-  pub long : length (q .tokens) ≡ 8
-  pub rest : (k : ℕ) → q .count ≤ k → getD (q .tokens) k (pos 0) ≡ pos 0
+-- a record whose unused places are 0 is what its tokens write, and the other way round: after a cycle too, by `after-of`
+pub queue-own : (q : Queue) → Stored 8 (pos 0) (q .tokens) (q .count) → q ≡ queueOf (waiting q)
+unfolding waiting queueOf
+queue-own q h =
+    ap₂ {C = Queue} (λ (t : List ℤ) (n : ℕ). record { tokens = t; count = n })
+    (stored-own 8 (pos 0) (q .tokens) (q .count) h)
+    (sym (stored-count 8 (pos 0) (q .tokens) (q .count) h))
 
-pub sound-of : (xs : List ℤ) → length xs ≤ 8 → Sound (queueOf xs)
+pub queue-stored : (xs : List ℤ) → length xs ≤ 8 → Stored 8 (pos 0) (queueOf xs .tokens) (queueOf xs .count)
 unfolding queueOf
-sound-of xs h = record { few = h; long = length-padded 8 (pos 0) xs h; rest = λ k l. padded-rest 8 (pos 0) xs k l }
+queue-stored xs h = stored-padded 8 (pos 0) xs h
 
 -- push: a token that arrives is the last
 pub push-of : (xs arriving : List ℤ) → length arriving ≤ 1 → length xs + length arriving ≤ 8 → pushed (queueOf xs) arriving ≡ queueOf (xs ++ arriving)

@@ -20,28 +20,28 @@ below c = let f = c .before .before .fits .exact in wrap-below (c .before .befor
 inside : (c : tie.Else2) → SFits w32 (c .before .before .args .exact)
 inside c = let f = c .before .before .fits .exact in within (c .before .before .args .exact) (simp toZ-ofZ at (c .before .if1 .left)) (simp toZ-ofZ at (c .if2 .left))
 
-sub-t3 : tie.Need-sub-t3
-sub-t3 c = simp (toZ-ofZ, c .before .fits .exact) (widen (above c .0))
+sub-down : tie.Need-sub-down
+sub-down c = simp (toZ-ofZ, c .before .fits .exact) (widen (above c .0))
 
-cast-t4 : tie.Need-cast-t4
-cast-t4 c = simp (toZ-ofZ, c .before .fits .exact, widen (above c .0)) (above c .0)
+cast-down : tie.Need-cast-down
+cast-down c = simp (toZ-ofZ, c .before .fits .exact, widen (above c .0)) (above c .0)
 
 returns : tie.Need-returns
 unfolding fired
 returns c = simp (toZ-ofZ, c .before .fits .exact, widen (above c .0), above c .0) (rw (above c .1))
 
-add-t5 : tie.Need-add-t5
-add-t5 c = simp (toZ-ofZ, c .before .before .fits .exact) (widen (below c .0))
+add-up : tie.Need-add-up
+add-up c = simp (toZ-ofZ, c .before .before .fits .exact) (widen (below c .0))
 
-cast-t6 : tie.Need-cast-t6
-cast-t6 c = simp (toZ-ofZ, c .before .before .fits .exact, widen (below c .0)) (below c .0)
+cast-up : tie.Need-cast-up
+cast-up c = simp (toZ-ofZ, c .before .before .fits .exact, widen (below c .0)) (below c .0)
 
 returns-2 : tie.Need-returns-2
 unfolding fired
 returns-2 c = simp (toZ-ofZ, c .before .before .fits .exact, widen (below c .0), below c .0) (rw (below c .1))
 
-cast-t7 : tie.Need-cast-t7
-cast-t7 c = simp (toZ-ofZ, c .before .before .fits .exact) (inside c)
+cast-same : tie.Need-cast-same
+cast-same c = simp (toZ-ofZ, c .before .before .fits .exact) (inside c)
 
 returns-3 : tie.Need-returns-3
 unfolding fired
@@ -49,4 +49,4 @@ returns-3 c = simp (toZ-ofZ, c .before .before .fits .exact, inside c, wrap-fits
 
 pub wrapped-spec : {M : Type 1} → statement M
 wrapped-spec =
-    tie.close (tie.spec sub-t3 cast-t4 returns add-t5 cast-t6 returns-2 cast-t7 returns-3)
+    tie.close (tie.spec sub-down cast-down returns add-up cast-up returns-2 cast-same returns-3)

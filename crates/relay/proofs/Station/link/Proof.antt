@@ -19,13 +19,13 @@ returns : tie.Need-returns
 unfolding linkOf
 returns c = rw (held-none (c .before .args .t1) (long (c .before)) (c .if1 .taken))
 
-element-copy-out-oldest : tie.Need-element-copy-out-oldest
-element-copy-out-oldest c = search needs
+element-copy-out-shown : tie.Need-element-copy-out-shown
+element-copy-out-shown c = search needs
 
 returns-2 : tie.Need-returns-2
 returns-2 c = let s = c .before .before in
     let h : 0 < s .args .t1 .count = omega arith in
-    rw (link-held (s .args .t1) (long s) h, toZ-ofZ (told (getD (s .args .t1 .tokens) 0 (pos 0)) (c .oldest .given)))
+    rw (link-held (s .args .t1) (long s) h, toZ-ofZ (told (getD (s .args .t1 .tokens) 0 (pos 0)) (c .shown .given)))
 
 pub link-spec : {M : Type 1} → statement M
-link-spec = tie.close (tie.spec returns element-copy-out-oldest returns-2)
+link-spec = tie.close (tie.spec returns element-copy-out-shown returns-2)
