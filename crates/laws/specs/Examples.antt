@@ -1,13 +1,15 @@
 -- The definitions here, computed at small numbers and at the ends of the signed range.
 use mathlib.Core.Bool.{true, false}
-use mathlib.Core.List.{[], _∷_}
+use mathlib.Core.List.{List, [], _∷_}
 use mathlib.Core.Path.{_≡_, refl}
 use Prim.Native.Nat.{ℕ, _+_, _-_, _^_}
 use lib.Dec.{ltb, eqb}
 use lib.IntN.{pos, negsuc}
 use Rattle.laws.specs.Below.{allBelow, anyBelow, sumBelow}
 use Rattle.laws.specs.Choice.{_if_else_}
+use Rattle.laws.specs.Range.{outside}
 use Rattle.laws.specs.Signed.{signed}
+use Rattle.laws.specs.Tokens.{some, two, oneIf, dropIf, padded}
 use Rattle.laws.specs.Table.{table, tableOver}
 
 -- 0, 1, 2 are all below 3, and 3 is not; 2 is found below 3 and not below 2; 0 + 1 + 2 + 3 + 4
@@ -23,6 +25,18 @@ choice = (refl, refl)
 tables : (table (λ k. k + 10) 3 ≡ 10 ∷ 11 ∷ 12 ∷ []) × (tableOver (λ k. k) 2 (7 ∷ 8 ∷ 9 ∷ []) ≡ 0 ∷ 1 ∷ 9 ∷ [])
 unfolding table tableOver
 tables = (refl, refl)
+
+ranges : (outside 1 9 0 ≡ true) × (outside 1 9 1 ≡ false) × (outside 1 9 9 ≡ false) × (outside 1 9 10 ≡ true)
+ranges = (refl, refl, refl, refl)
+
+tokens :
+    let one : List ℕ = 7 ∷ [] in
+    let pair : List ℕ = 7 ∷ 8 ∷ [] in
+    (some {A = ℕ} [] ≡ false) × (some one ≡ true) × (two one ≡ false) × (two pair ≡ true) ×
+    (oneIf {A = ℕ} true 7 ≡ one) × (oneIf {A = ℕ} false 7 ≡ []) × (dropIf true pair ≡ 8 ∷ []) × (dropIf false pair ≡ pair) ×
+    (padded 3 0 one ≡ 7 ∷ 0 ∷ 0 ∷ []) × (padded 2 0 pair ≡ pair)
+unfolding padded
+tokens = (refl, refl, refl, refl, refl, refl, refl, refl, refl, refl)
 
 -- 0, the largest, the least and -1
 ends : (signed 0 ≡ pos 0) × (signed (2 ^ 31 - 1) ≡ pos 2147483647) × (signed (2 ^ 31) ≡ negsuc 2147483647) × (signed (2 ^ 32 - 1) ≡ negsuc 0)

@@ -3,7 +3,7 @@ use mathlib.Core.List.{List, [], _∷_, map, append-assoc}
 use mathlib.Core.Logic.{⊎-elim}
 use mathlib.Core.Path.{_≡_, refl, sym, _∙_}
 use Prim.Native.Nat.{ℕ, zero, suc, _<_, _≤_}
-use native.Mathlib.Nat.{not-suc-le-zero}
+use native.Mathlib.Nat.{not-suc-le-zero, le-of-suc-le-suc}
 use native.Mathlib.Omega.{arith}
 use lib.ListN.{length, getD, set, drop, length-append, length-drop, length-map, List·getD-append, List·getD-map}
 use lib.Seq.{drop-cons, getD-at, set-at, ext-getD}
@@ -11,6 +11,12 @@ use Rattle.laws.specs.Cases.{below-suc}
 use Rattle.laws.specs.Table.{table, tableOver}
 
 module _ {A : Type 0} where
+  -- what stands in a list is there whatever is read past its end
+  pub getD-any : (l : List A) (i : ℕ) (d e : A) → i < length l → getD l i d ≡ getD l i e
+  getD-any [] i d e h = absurd (not-suc-le-zero h)
+  getD-any (x ∷ l) zero d e h = refl
+  getD-any (x ∷ l) (suc i) d e h = getD-any l i d e (le-of-suc-le-suc h)
+
   pub length-table : (f : ℕ → A) (n : ℕ) → length (table f n) ≡ n
   unfolding table
   length-table f zero = refl

@@ -1,13 +1,13 @@
 -- Laws of tests on lists and of padded lists. Assumes nothing.
 use mathlib.Core.Bool.{Bool, true, false, false≢true}
-use mathlib.Core.List.{List, [], _∷_, _++_, append-assoc, append-nil}
+use mathlib.Core.List.{List, [], _∷_, _++_, append-assoc}
 use mathlib.Core.Logic.{⊎-elim}
 use mathlib.Core.Path.{_≡_, refl, ap, sym, _∙_}
 use Prim.Native.Nat.{ℕ, zero, suc, _+_, _-_, _<_, _≤_, min}
-use native.Mathlib.Nat.{not-suc-le-zero}
 use native.Mathlib.Numerals.{add-one}
 use native.Mathlib.Omega.{arith}
-use lib.ListN.{length, getD, take, drop, set, replicate, length-append, length-replicate, replicate-append-replicate, length-take, drop-of-length-le, List·getD-append}
+use lib.ListN.{length, getD, take, drop, set, replicate, length-append, length-take, drop-of-length-le, List·getD-append}
+use lib.ListN.{length-replicate, replicate-append-replicate}
 use lib.Seq.{take-all, take-length, drop-length, take-append-seam, set-append-seam, append-snoc, getD-append-add, getD-take, ext-getD}
 use Rattle.laws.specs.Cases.{lt-or-ge}
 use Rattle.laws.specs.Tokens.{some, oneIf, dropIf, padded, Stored}
@@ -102,9 +102,9 @@ module _ {A : Type 0} where
       let j : length xs ≤ n = omega (arith, s .few) in
       ext-getD d l (padded n d xs) (s .long ∙ sym (length-padded n d xs j))
       (λ i h.
-        ⊎-elim
-        (λ (g : i < count).
-          let m : i < length xs = omega arith in
-          sym (List·getD-append xs (replicate (n - length xs) d) d i m ∙ getD-take count l i d g))
-        (λ (g : count ≤ i). let m : length xs ≤ i = omega arith in s .rest i g ∙ sym (padded-rest n d xs i m))
-        (lt-or-ge i count))
+      ⊎-elim
+      (λ (g : i < count).
+      let m : i < length xs = omega arith in
+      sym (List·getD-append xs (replicate (n - length xs) d) d i m ∙ getD-take count l i d g))
+      (λ (g : count ≤ i). let m : length xs ≤ i = omega arith in s .rest i g ∙ sym (padded-rest n d xs i m))
+      (lt-or-ge i count))

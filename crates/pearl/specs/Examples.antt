@@ -10,9 +10,9 @@ use Rattle.pearl.specs.Next.{halve, larger, choose, exact, nextValue, ne
 -- kinds 0 to 10 at s = 5, a = -3, b = 7, c = 11, and at s = 5, a = 8, b = 7, c = 11 (`negsuc n` is - (n + 1))
 rows :
     (table (λ k. nextValue k (pos 5) (negsuc 2) (pos 7) (pos 11)) 11 ≡
-      pos 0 ∷ pos 6 ∷ negsuc 2 ∷ pos 2 ∷ pos 3 ∷ negsuc 1 ∷ pos 4 ∷ negsuc 9 ∷ pos 7 ∷ pos 7 ∷ pos 0 ∷ []) ×
+    pos 0 ∷ pos 6 ∷ negsuc 2 ∷ pos 2 ∷ pos 3 ∷ negsuc 1 ∷ pos 4 ∷ negsuc 9 ∷ pos 7 ∷ pos 7 ∷ pos 0 ∷ []) ×
     (table (λ k. nextValue k (pos 5) (pos 8) (pos 7) (pos 11)) 11 ≡
-      pos 0 ∷ pos 6 ∷ pos 8 ∷ pos 13 ∷ negsuc 7 ∷ pos 4 ∷ pos 15 ∷ pos 1 ∷ pos 8 ∷ pos 11 ∷ pos 0 ∷ [])
+    pos 0 ∷ pos 6 ∷ pos 8 ∷ pos 13 ∷ negsuc 7 ∷ pos 4 ∷ pos 15 ∷ pos 1 ∷ pos 8 ∷ pos 11 ∷ pos 0 ∷ [])
 unfolding table wrap signed halve larger choose exact nextValue
 rows = (refl, refl)
 

@@ -19,14 +19,23 @@ fn wrapped(exact: i64) -> Next
 {
     if exact > 2147483647 {
         let down = (exact - 4294967296) as i32;
-        return Next { number: 0, value: down };
+        return Next {
+            number: 0,
+            value: down,
+        };
     }
     if exact < -2147483648 {
         let up = (exact + 4294967296) as i32;
-        return Next { number: 0, value: up };
+        return Next {
+            number: 0,
+            value: up,
+        };
     }
     let same = exact as i32;
-    Next { number: 0, value: same }
+    Next {
+        number: 0,
+        value: same,
+    }
 }
 
 fn added(a: i32, b: i32) -> Next
@@ -82,6 +91,9 @@ pub fn next_value(kind: u8, s: i32, a: i32, b: i32, c: i32) -> Next
         7 => taken(a, b),
         8 => kept(greater(a, b)),
         9 => kept(chosen(a, b, c)),
-        _ => Next { number: 4, value: 0 },
+        _ => Next {
+            number: 4,
+            value: 0,
+        },
     }
 }

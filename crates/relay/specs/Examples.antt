@@ -1,15 +1,19 @@
--- The definitions here, computed: source document 004's table 1, source document 000's figure 6, and a row of two stations.
+-- The definitions here, computed: source document 004's table 1, source document 000's figure 6, a row of two stations, and records.
 use mathlib.Core.Bool.{Bool, true, false}
-use mathlib.Core.List.{List, [], _∷_}
+use mathlib.Core.List.{List, [], _∷_, _++_}
 use mathlib.Core.Path.{_≡_, refl}
 use Prim.Native.Nat.{ℕ}
 use lib.Dec.{eqb, ltb}
 use lib.IntN.{ℤ, pos}
-use Rattle.laws.specs.Tokens.{oneIf}
+use lib.ListN.{replicate}
+use Rattle.laws.specs.Tokens.{oneIf, padded}
+use Rattle.relay.specs.declared.Link.{Link}
 use Rattle.relay.specs.declared.Reading.{Reading}
-use Rattle.relay.specs.Link.{linkOf, letter, reading}
-use Rattle.relay.specs.Station.{placeAfter}
+use Rattle.relay.specs.declared.Row.{Row}
+use Rattle.relay.specs.Link.{token, linkOf, letter, reading}
+use Rattle.relay.specs.Station.{held, stationOf, placeAfter}
 use Rattle.relay.specs.Row.{stopped, leaving, rowAfter}
+use Rattle.relay.specs.RowCycle.{places, rowCycle}
 
 -- the letters T and R with their value, I and S
 abbrev t : ℕ → Reading
@@ -72,7 +76,44 @@ twoStations :
     let enter : List ℕ = 1 ∷ 2 ∷ 3 ∷ 4 ∷ 5 ∷ 5 ∷ 5 ∷ 5 ∷ 0 ∷ 6 ∷ 7 ∷ 0 ∷ 0 ∷ 0 ∷ 0 ∷ 0 ∷ [] in
     let stop = bits (0 ∷ 0 ∷ 1 ∷ 1 ∷ 1 ∷ 0 ∷ 1 ∷ 0 ∷ 0 ∷ 1 ∷ 1 ∷ 0 ∷ 1 ∷ 0 ∷ 0 ∷ 0 ∷ []) in
     (leaves ([] ∷ [] ∷ []) enter stop ≡
-      i ∷ i ∷ r 1 ∷ r 1 ∷ r 1 ∷ t 1 ∷ r 2 ∷ t 2 ∷ t 3 ∷ r 4 ∷ r 4 ∷ t 4 ∷ r 5 ∷ t 5 ∷ t 6 ∷ t 7 ∷ []) ×
+    i ∷ i ∷ r 1 ∷ r 1 ∷ r 1 ∷ t 1 ∷ r 2 ∷ t 2 ∷ t 3 ∷ r 4 ∷ r 4 ∷ t 4 ∷ r 5 ∷ t 5 ∷ t 6 ∷ t 7 ∷ []) ×
     (stopsAbove ([] ∷ [] ∷ []) enter stop ≡ bits (0 ∷ 0 ∷ 0 ∷ 0 ∷ 1 ∷ 1 ∷ 1 ∷ 0 ∷ 1 ∷ 0 ∷ 0 ∷ 1 ∷ 1 ∷ 0 ∷ 0 ∷ 0 ∷ []))
 unfolding reading letter linkOf stopped leaving rowAfter placeAfter
 twoStations = (refl, refl)
+
+-- ---- records
+-- a count over two is read as two, and a token that is not held is not looked at; after the cycle the unused places are 0
+unfit :
+    (stationOf (placeAfter [] (held (record { tokens = pos 4 ∷ pos 5 ∷ []; count = 9 })) false) ≡ record { tokens = pos 5 ∷ pos 0 ∷ []; count = 1 }) ×
+    (stationOf (placeAfter [] (held (record { tokens = pos 4 ∷ pos 5 ∷ []; count = 1 })) true) ≡ record { tokens = pos 4 ∷ pos 0 ∷ []; count = 1 }) ×
+    (stationOf (placeAfter [] (held (record { tokens = pos 4 ∷ pos 5 ∷ []; count = 0 })) true) ≡ record { tokens = pos 0 ∷ pos 0 ∷ []; count = 0 })
+unfolding held stationOf placeAfter padded
+unfit = (refl, refl, refl)
+
+-- eight stations with a token each. A row of none of them is its link; the cycle of one leaves the others; a length over eight is eight
+abbrev eight : Row
+eight = record { stations = replicate 8 (stationOf (pos 1 ∷ [])) }
+
+abbrev offer : Link
+offer = record { valid = true; value = pos 2 }
+
+lengths :
+    (rowCycle eight 0 offer true ≡ record { row = eight; leaving = offer; taken = false }) ×
+    (rowCycle eight 1 offer false ≡
+    record {
+      row = record { stations = stationOf (pos 2 ∷ []) ∷ replicate 7 (stationOf (pos 1 ∷ [])) };
+      leaving = record { valid = true; value = pos 1 };
+      taken = true;
+    }) ×
+    (rowCycle eight 8 offer true ≡
+    record {
+      row =
+          record {
+            stations = stationOf (pos 2 ∷ []) ∷ replicate 6 (stationOf (pos 1 ∷ [])) ++ (stationOf (pos 1 ∷ pos 1 ∷ []) ∷ []);
+          };
+      leaving = record { valid = true; value = pos 1 };
+      taken = true;
+    }) ×
+    (rowCycle eight 9 offer true ≡ rowCycle eight 8 offer true)
+unfolding token linkOf held stationOf placeAfter stopped leaving rowAfter places rowCycle padded
+lengths = (refl, refl, refl, refl)

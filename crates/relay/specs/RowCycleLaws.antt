@@ -1,6 +1,6 @@
 -- Laws of a row of records: each of its places, links and stops by index, and the loop over it. Assumes nothing.
 use mathlib.Core.Bool.{Bool, not, _&&_}
-use mathlib.Core.List.{List, [], _∷_, map, _++_}
+use mathlib.Core.List.{List, [], map}
 use mathlib.Core.Path.{_≡_, refl, sym, ap, _∙_}
 use Prim.Native.Nat.{ℕ, zero, suc, _-_, _<_, _≤_, min}
 use native.Mathlib.Nat.{not-suc-le-zero}
@@ -8,7 +8,6 @@ use native.Mathlib.Omega.{arith}
 use lib.IntN.{ℤ}
 use lib.ListN.{length, getD, take, drop, length-map, length-take, List·getD-map}
 use lib.Seq.{getD-take, take-all}
-use Rattle.laws.specs.Tokens.{some}
 use Rattle.laws.specs.Table.{table, tableOver}
 use Rattle.laws.specs.TableLaws.{table-map}
 use Rattle.laws.specs.TokensLaws.{take-min, drop-min}
@@ -16,7 +15,7 @@ use Rattle.relay.specs.declared.Link.{Link}
 use Rattle.relay.specs.declared.Station.{Station}
 use Rattle.relay.specs.declared.Row.{Row}
 use Rattle.relay.specs.declared.RowCycle.{RowCycle}
-use Rattle.relay.specs.Link.{token, linkOf, passing}
+use Rattle.relay.specs.Link.{token, linkOf}
 use Rattle.relay.specs.LinkLaws.{linkOf-take, token-of, token-few, passing-some}
 use Rattle.relay.specs.Station.{held, stationOf, placeAfter}
 use Rattle.relay.specs.Row.{stopped, leaving, rowAfter}
@@ -39,7 +38,9 @@ link-places link row n zero h k = refl
 link-places link row n (suc j) h k = ap (λ (p : List ℤ). take 1 p) (place-at row 8 j (omega arith) ∙ sym (place-at row n j h))
 
 -- link j above 0 leaves station j - 1
-pub link-above : (link : List ℤ) (row : Row) (j : ℕ) → 0 < j → j ≤ 8 → linkOf (held (getD (row .stations) (j - 1) noStation)) ≡ linkOf (linkAt link (places row 8) j)
+pub link-above :
+    (link : List ℤ) (row : Row) (j : ℕ) → 0 < j → j ≤ 8
+    → linkOf (held (getD (row .stations) (j - 1) noStation)) ≡ linkOf (linkAt link (places row 8) j)
 unfolding linkAt
 link-above link row zero h k = absurd (not-suc-le-zero h)
 link-above link row (suc j) h k =

@@ -1,7 +1,6 @@
 -- A relay station: "two tokens and a count from 0 to 2", stored "oldest first, from [the] first place", every unused place 0.
 use mathlib.Core.Bool.{Bool, not}
 use mathlib.Core.List.{List, _++_}
-use Prim.Native.Nat.{ℕ}
 use lib.IntN.{ℤ, pos}
 use lib.ListN.{length, take}
 use Rattle.laws.specs.Tokens.{two, dropIf, padded}

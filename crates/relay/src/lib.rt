@@ -49,14 +49,26 @@ impl Link {
     {
         if self.valid {
             if stop {
-                return Reading { letter: b'R', value: self.value };
+                return Reading {
+                    letter: b'R',
+                    value: self.value,
+                };
             }
-            return Reading { letter: b'T', value: self.value };
+            return Reading {
+                letter: b'T',
+                value: self.value,
+            };
         }
         if stop {
-            return Reading { letter: b'S', value: 0 };
+            return Reading {
+                letter: b'S',
+                value: 0,
+            };
         }
-        Reading { letter: b'I', value: 0 }
+        Reading {
+            letter: b'I',
+            value: 0,
+        }
     }
 
     // The same link, with the value 0 if it is void.
@@ -66,7 +78,10 @@ impl Link {
         if self.valid {
             return self;
         }
-        Link { valid: false, value: 0 }
+        Link {
+            valid: false,
+            value: 0,
+        }
     }
 }
 
@@ -77,19 +92,28 @@ impl Station {
     pub fn empty() -> Self
         ensures { λ r. ⌜ r ≡ stationOf [] ⌝ }
     {
-        Station { tokens: [0; 2], count: 0 }
+        Station {
+            tokens: [0; 2],
+            count: 0,
+        }
     }
 
     fn one(token: i32) -> Self
         ensures { λ r. ⌜ r ≡ stationOf (token ∷ []) ⌝ }
     {
-        Station { tokens: [token, 0], count: 1 }
+        Station {
+            tokens: [token, 0],
+            count: 1,
+        }
     }
 
     fn pair(older: i32, newer: i32) -> Self
         ensures { λ r. ⌜ r ≡ stationOf (older ∷ newer ∷ []) ⌝ }
     {
-        Station { tokens: [older, newer], count: 2 }
+        Station {
+            tokens: [older, newer],
+            count: 2,
+        }
     }
 
     // The link that leaves it.
@@ -97,10 +121,16 @@ impl Station {
         ensures { λ r. ⌜ r ≡ linkOf (held self) ⌝ }
     {
         if self.count == 0 {
-            return Link { valid: false, value: 0 };
+            return Link {
+                valid: false,
+                value: 0,
+            };
         }
         let shown = self.tokens[0];
-        Link { valid: true, value: shown }
+        Link {
+            valid: true,
+            value: shown,
+        }
     }
 
     // Whether it holds two tokens, which stops the link that enters it.
@@ -141,7 +171,11 @@ impl Station {
 fn within(length: u8) -> usize
     ensures { λ r. ⌜ (r ≡ min length 8) × (r ≤ 8) ⌝ }
 {
-    if length < 8 { length as usize } else { 8 }
+    if length < Row::LENGTH {
+        length as usize
+    } else {
+        Row::LENGTH as usize
+    }
 }
 
 impl Row {
@@ -199,6 +233,10 @@ impl Row {
         }
         let leaving = self.link_at(link, n);
         let held_up = self.stop_at(n, stop, 0);
-        RowCycle { row, leaving, taken: link.valid & !held_up }
+        RowCycle {
+            row,
+            leaving,
+            taken: link.valid & !held_up,
+        }
     }
 }

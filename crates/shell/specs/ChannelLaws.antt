@@ -1,18 +1,18 @@
 -- Laws of a channel in one cycle: first in, first out; the input is the oldest token; the queue stays within its depth. Assumes nothing.
-use mathlib.Core.Bool.{Bool, true, false, false≢true, true≢false}
+use mathlib.Core.Bool.{Bool, true, false, true≢false}
 use mathlib.Core.List.{List, [], _∷_, _++_, append-assoc, append-nil}
 use mathlib.Core.Logic.{⊎-elim}
 use mathlib.Core.Path.{_≡_, refl, sym, ap, _∙_}
-use Prim.Native.Nat.{ℕ, _+_, _<_, _≤_}
+use Prim.Native.Nat.{ℕ, _+_, _≤_}
 use native.Mathlib.Omega.{arith}
-use borrow.Author.Tests.{lt-leb, leb-false, leb-true}
+use borrow.Author.Tests.{lt-leb, leb-false}
 use lib.Dec.{leb}
 use lib.IntN.{ℤ}
 use lib.ListN.{length, length-append}
 use Rattle.laws.specs.Choice.{_if_else_}
 use Rattle.laws.specs.Cases.{true-or-false}
 use Rattle.laws.specs.Tokens.{some, oneIf, dropIf}
-use Rattle.laws.specs.TokensLaws.{dropIf-append, length-dropIf, some-append}
+use Rattle.laws.specs.TokensLaws.{dropIf-append, length-dropIf}
 use Rattle.relay.specs.declared.Link.{Link}
 use Rattle.relay.specs.Link.{linkOf, passing, staying}
 use Rattle.relay.specs.LinkLaws.{link-first, valid-some, passing-staying}
@@ -25,12 +25,14 @@ use Rattle.shell.specs.Channel.{Channel, tokens, blocked, pendingAfter, 
 pub oldest-first : (ch : Channel) → input ch .valid ≡ true → linkOf (tokens ch) ≡ input ch
 unfolding input tokens arriving
 oldest-first ch e =
-    ap linkOf (ap (λ (t : List ℤ). ch .queue ++ t) (leaving-first (ch .source) (ch .row)) ∙ sym (append-assoc (ch .queue) (arriving ch) (behind (ch .source) (ch .row))))
-    ∙ link-first (ch .queue ++ arriving ch) (behind (ch .source) (ch .row)) e
+    let rest = behind (ch .source) (ch .row) in
+    ap linkOf (ap (λ (t : List ℤ). ch .queue ++ t) (leaving-first (ch .source) (ch .row)) ∙ sym (append-assoc (ch .queue) (arriving ch) rest))
+    ∙ link-first (ch .queue ++ arriving ch) rest e
 
 -- a node that fires still finds a token once what passes is in the queue: only a queue that holds one is full
 still-ready :
-    (depth : ℕ) (queue link : List ℤ) → 1 ≤ depth → linkOf (queue ++ link) .valid ≡ true → some (queue ++ passing link (full depth (length queue))) ≡ true
+    (depth : ℕ) (queue link : List ℤ) → 1 ≤ depth → linkOf (queue ++ link) .valid ≡ true
+    → some (queue ++ passing link (full depth (length queue))) ≡ true
 unfolding linkOf full
 still-ready depth [] link h e = rw (lt-leb depth 0 h) (valid-some link e)
 still-ready depth (x ∷ queue) link h e = refl
@@ -78,7 +80,8 @@ module _ (depth : ℕ) (ch : Channel) (to from : Bool) (value : ℤ) where
       ap (λ (t : List ℤ). dropIf to (ch .queue ++ a) ++ (after ++ t)) (renewed from stay value (λ e. cleared (ch .source) above (clear e)))
       ∙ sym (dropIf-append (ch .queue ++ a) (after ++ (stay ++ new)) to (λ e. still-ready depth (ch .queue) (arriving ch) deep (ready e)))
       ∙ ap (λ (t : List ℤ). dropIf to t)
-      (regroup (ch .queue) a (contents (ch .row)) after (ch .source) (passing (ch .source) above) stay new (row-fifo (ch .source) (ch .row) stop) (passing-staying (ch .source) above))
+      (regroup (ch .queue) a (contents (ch .row)) after (ch .source) (passing (ch .source) above) stay new
+      (row-fifo (ch .source) (ch .row) stop) (passing-staying (ch .source) above))
       ∙ dropIf-append (tokens ch) new to (λ e. valid-some (tokens ch) (ap (λ (l : Link). l .valid) (oldest-first ch (ready e)) ∙ ready e))
 
 -- what the from node shows as pending, after the cycle

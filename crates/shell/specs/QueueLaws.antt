@@ -2,9 +2,8 @@
 use mathlib.Core.Bool.{Bool, true, false, not, _&&_}
 use mathlib.Core.List.{List, [], _∷_, _++_, append-nil}
 use mathlib.Core.Path.{_≡_, refl, sym, ap, ap₂, _∙_}
-use Prim.Native.Nat.{ℕ, zero, suc, _+_, _-_, _<_, _≤_}
+use Prim.Native.Nat.{ℕ, suc, _+_, _-_, _<_, _≤_}
 use native.Mathlib.Nat.{not-suc-le-zero}
-use native.Mathlib.Numerals.{add-one}
 use native.Mathlib.Omega.{arith}
 use borrow.Author.Tests.{lt-ltb, ne-eqb}
 use lib.Dec.{ltb}
@@ -77,12 +76,12 @@ after-of (x ∷ xs) arriving true l h =
 pub popped-is :
     (q : Queue) → length (q .tokens) ≡ 8
     → popped q ≡
-      record {
-        tokens =
-            getD (q .tokens) 1 (pos 0) ∷ getD (q .tokens) 2 (pos 0) ∷ getD (q .tokens) 3 (pos 0) ∷ getD (q .tokens) 4 (pos 0) ∷
-            getD (q .tokens) 5 (pos 0) ∷ getD (q .tokens) 6 (pos 0) ∷ getD (q .tokens) 7 (pos 0) ∷ pos 0 ∷ [];
-        count = q .count - 1;
-      }
+    record {
+      tokens =
+          getD (q .tokens) 1 (pos 0) ∷ getD (q .tokens) 2 (pos 0) ∷ getD (q .tokens) 3 (pos 0) ∷ getD (q .tokens) 4 (pos 0) ∷
+          getD (q .tokens) 5 (pos 0) ∷ getD (q .tokens) 6 (pos 0) ∷ getD (q .tokens) 7 (pos 0) ∷ pos 0 ∷ [];
+      count = q .count - 1;
+    }
 unfolding popped table
 popped-is q long =
     ap (λ (t : List ℤ). record { tokens = drop 1 t ++ (pos 0 ∷ []); count = q .count - 1 })
@@ -90,7 +89,9 @@ popped-is q long =
 
 -- ---- the code's steps
 -- a queue that holds a token shows its first
-pub link-waiting : (q : Queue) (ys : List ℤ) → length (q .tokens) ≡ 8 → 0 < q .count → linkOf (waiting q ++ ys) ≡ record { valid = true; value = getD (q .tokens) 0 (pos 0) }
+pub link-waiting :
+    (q : Queue) (ys : List ℤ) → length (q .tokens) ≡ 8 → 0 < q .count
+    → linkOf (waiting q ++ ys) ≡ record { valid = true; value = getD (q .tokens) 0 (pos 0) }
 unfolding waiting
 link-waiting q ys long h =
     let e = link-take (q .count) (q .tokens) h (omega arith) in
@@ -100,7 +101,7 @@ link-waiting q ys long h =
 pushed-flag :
     (q : Queue) (valid stop : Bool) (x : ℤ)
     → pushed q (passing (oneIf valid x) stop) ≡
-      (record { tokens = set (q .tokens) (q .count) x; count = q .count + 1 } if (valid && not stop) && ltb (q .count) 8 else q)
+    (record { tokens = set (q .tokens) (q .count) x; count = q .count + 1 } if (valid && not stop) && ltb (q .count) 8 else q)
 unfolding pushed
 pushed-flag q true true x = refl
 pushed-flag q true false x = refl
@@ -110,6 +111,6 @@ pushed-flag q false false x = refl
 pub push-flag :
     (q : Queue) (link : Link) (stop : Bool)
     → pushed q (passing (token link) stop) ≡
-      (record { tokens = set (q .tokens) (q .count) (link .value); count = q .count + 1 } if (link .valid && not stop) && ltb (q .count) 8 else q)
+    (record { tokens = set (q .tokens) (q .count) (link .value); count = q .count + 1 } if (link .valid && not stop) && ltb (q .count) 8 else q)
 unfolding token
 push-flag q link stop = pushed-flag q (link .valid) stop (link .value)

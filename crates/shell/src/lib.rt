@@ -20,7 +20,10 @@ impl Queue {
     pub fn empty() -> Self
         ensures { λ r. ⌜ r ≡ queueOf [] ⌝ }
     {
-        Queue { tokens: [0; 8], count: 0 }
+        Queue {
+            tokens: [0; 8],
+            count: 0,
+        }
     }
 
     // Whether a queue of a depth is full, which stops the link that arrives at it.
@@ -39,10 +42,16 @@ impl Queue {
             if link.valid {
                 return link;
             }
-            return Link { valid: false, value: 0 };
+            return Link {
+                valid: false,
+                value: 0,
+            };
         }
         let oldest = self.tokens[0];
-        Link { valid: true, value: oldest }
+        Link {
+            valid: true,
+            value: oldest,
+        }
     }
 
     fn pushed(self, link: Link, stop: bool) -> Self
@@ -72,7 +81,10 @@ impl Queue {
             self.tokens[7],
             0,
         ];
-        Queue { tokens, count: self.count - 1 }
+        Queue {
+            tokens,
+            count: self.count - 1,
+        }
     }
 
     // It after a cycle, from the link that arrives, the stop on that link, and whether its node fires.

@@ -16,7 +16,6 @@ use Rattle.relay.specs.Station.{held, stationOf, placeAfter}
 use Rattle.relay.specs.Row.{stopped, leaving, rowAfter}
 use Rattle.relay.specs.RowCycle.{places, rowCycle}
 use Rattle.shell.specs.Queue.{waiting, queueOf, full, pushed, popped, queueAfter}
-use Rattle.starred.specs.declared.Edge.{Edge}
 use Rattle.starred.specs.Edges.{edges, given}
 
 -- a row of which the first station holds these tokens; a token offered on a link
@@ -33,22 +32,19 @@ relayed tokens v = rowCycle (first tokens) 1 (offered v) false
 -- every starred edge; a, b and v are any values
 pub record Starred : Type 0 where
   pub arithmetic : map given edges ≡ map (λ e. e .expected) edges
-
   -- "a full station, no stop below, token offered: hands on the older, takes none, holds one"
   pub full-station : (a b v : ℤ) → relayed (a ∷ b ∷ []) v ≡ record { row = first (b ∷ []); leaving = offered a; taken = false }
-
   -- "an empty station, no stop below, token offered: shows I, takes it"
   pub empty-station : (v : ℤ) → relayed [] v ≡ record { row = first (v ∷ []); leaving = linkOf []; taken = true }
   pub shows-i : reading (linkOf []) false ≡ record { letter = 73; value = pos 0 }
-
   -- "an empty queue of depth 1 whose node fires on arrival stays empty": the link is not stopped, v is the node's input, and the queue is empty after
   pub empty-queue : (v : ℤ) → (full 1 0 ≡ false) × (queueAfter (queueOf []) (v ∷ []) true ≡ queueOf [])
 
 pub starred : Starred
 unfolding signed padded
-  wrap halve larger choose exact nextValue
-  token linkOf letter reading held stationOf placeAfter stopped leaving rowAfter places rowCycle
-  waiting queueOf full pushed popped queueAfter
+    wrap halve larger choose exact nextValue
+    token linkOf letter reading held stationOf placeAfter stopped leaving rowAfter places rowCycle
+    waiting queueOf full pushed popped queueAfter
 starred =
     record {
       arithmetic = refl;

@@ -16,7 +16,9 @@ shifted (pos n) = refl
 shifted (negsuc n) = refl
 
 returns : tie.Need-returns
-returns c = let f : SFits w32 (shrZ (c .args .a) 2) = sfits-le (mag-shr (c .args .a) 2) (c .fits .a) in simp (toZ-ofZ, c .fits .a, f) (shifted (c .args .a))
+returns c =
+    let f : SFits w32 (shrZ (c .args .a) 2) = sfits-le (mag-shr (c .args .a) 2) (c .fits .a) in
+    simp (toZ-ofZ, c .fits .a, f) (shifted (c .args .a))
 
 pub halved-spec : {M : Type 1} → statement M
 halved-spec = tie.close (tie.spec returns)

@@ -1,11 +1,12 @@
 -- `pearl::next_value` meets its contract: each arm is the table's entry at its kind, and any other number is no kind. Assumes nothing.
-use Prim.Native.Nat.{ℕ, suc, _≤_, _<_}
-use native.Mathlib.Omega.{arith}
 use mathlib.Core.Logic.{⊎-elim}
 use mathlib.Core.Path.{_≡_}
 use mathlib.Core.Bool.{true}
-use mir.Facts.{toZ-ofZ}
+use Prim.Native.Nat.{ℕ, suc, _≤_, _<_}
+use native.Mathlib.Omega.{arith}
 use borrow.Author.Tests.{lt-ltb, le-ltb}
+use borrow.Author.Needs.{needs}
+use mir.Facts.{toZ-ofZ}
 use Rattle.laws.specs.Cases.{lt-or-ge}
 use Rattle.laws.specs.SignedLaws.{told}
 use Rattle.laws.specs.Range.{outside}
@@ -13,7 +14,6 @@ use Rattle.laws.specs.Signed.{signed}
 use Rattle.pearl.specs.Next.{next, nextValue, exact, fired}
 use Rattle.pearl.specs.NextLaws.{exact-none}
 use Rattle.pearl.specs.Wrap.{wrap}
-use borrow.Author.Needs.{needs}
 use Rattle.pearl.proofs.next_value.Statement.{statement}
 use Rattle.pearl.proofs.next_value.Tie as tie
 
@@ -75,7 +75,8 @@ returns-4 c = let s = c .before .before in rw (c .before .match .keys4) (simp (t
 
 returns-5 : tie.Need-returns-5
 unfolding next nextValue exact fired
-returns-5 c = let h = c .before in
+returns-5 c =
+    let h = c .before in
     let f = told (h .halved .result) (h .halved .ok) in
     rw (h .before .match .keys5, c .kept2 .ensures, toZ-ofZ f, h .halved .ensures, toZ-ofZ (h .before .before .fits .a))
 
@@ -89,14 +90,16 @@ returns-7 c = let s = c .before .before in rw (c .before .match .keys7) (simp (t
 
 returns-8 : tie.Need-returns-8
 unfolding next nextValue exact fired
-returns-8 c = let h = c .before in
+returns-8 c =
+    let h = c .before in
     let s = h .before .before in
     let f = told (h .greater .result) (h .greater .ok) in
     rw (h .before .match .keys8, c .kept3 .ensures, toZ-ofZ f, h .greater .ensures, toZ-ofZ (s .fits .a), toZ-ofZ (s .fits .b))
 
 returns-9 : tie.Need-returns-9
 unfolding next nextValue exact fired
-returns-9 c = let h = c .before in
+returns-9 c =
+    let h = c .before in
     let s = h .before .before in
     let f = told (h .chosen .result) (h .chosen .ok) in
     rw (
@@ -115,13 +118,13 @@ returns-10 c =
     let a = c .before .args in
     let r = c .match .rest in
     let none : outside 1 9 (a .kind) ≡ true =
-      ⊎-elim
-      (λ (l : a .kind < 1). rw (lt-ltb (a .kind) 1 l))
-      (λ (l : 1 ≤ a .kind).
-        let h = past (past (past (past l (r .0 .0 .0 .0 .0 .0 .0 .0 .1)) (r .0 .0 .0 .0 .0 .0 .0 .1)) (r .0 .0 .0 .0 .0 .0 .1)) (r .0 .0 .0 .0 .0 .1) in
-        let g : 9 < a .kind = past (past (past (past (past h (r .0 .0 .0 .0 .1)) (r .0 .0 .0 .1)) (r .0 .0 .1)) (r .0 .1)) (r .1) in
-        rw (le-ltb (a .kind) 1 l, lt-ltb 9 (a .kind) g))
-      (lt-or-ge (a .kind) 1) in
+    ⊎-elim
+    (λ (l : a .kind < 1). rw (lt-ltb (a .kind) 1 l))
+    (λ (l : 1 ≤ a .kind).
+    let h = past (past (past (past l (r .0 .0 .0 .0 .0 .0 .0 .0 .1)) (r .0 .0 .0 .0 .0 .0 .0 .1)) (r .0 .0 .0 .0 .0 .0 .1)) (r .0 .0 .0 .0 .0 .1) in
+    let g : 9 < a .kind = past (past (past (past (past h (r .0 .0 .0 .0 .1)) (r .0 .0 .0 .1)) (r .0 .0 .1)) (r .0 .1)) (r .1) in
+    rw (le-ltb (a .kind) 1 l, lt-ltb 9 (a .kind) g))
+    (lt-or-ge (a .kind) 1) in
     rw (none, exact-none (a .kind) none (a .s) (a .a) (a .b) (a .c))
 
 pub next-value-spec : {M : Type 1} → statement M

@@ -1,5 +1,5 @@
 -- `pearl::wrapped` meets its contract: each arm's number is in the range, and is `wrap exact` by the law of its arm. Assumes nothing.
-use mathlib.Core.Path.{_≡_, sym}
+use mathlib.Core.Path.{_≡_}
 use lib.IntN.{pos, _+ℤ_, _-ℤ_}
 use mir.Syntax.{w32}
 use mir.Val.{SFits}
@@ -11,14 +11,16 @@ use Rattle.pearl.specs.WrapLaws.{wrap-fits, wrap-above, wrap-below, with
 use Rattle.pearl.proofs.wrapped.Statement.{statement}
 use Rattle.pearl.proofs.wrapped.Tie as tie
 
-above : (c : tie.Then1) → SFits w32 (c .before .args .exact -ℤ pos 4294967296) × (c .before .args .exact -ℤ pos 4294967296 ≡ wrap (c .before .args .exact))
-above c = let f = c .before .fits .exact in wrap-above (c .before .args .exact) (c .before .pre) (simp toZ-ofZ at (c .if1 .taken))
+above : (c : tie.Then1) → let z = c .before .args .exact in SFits w32 (z -ℤ pos 4294967296) × (z -ℤ pos 4294967296 ≡ wrap z)
+above c = let s = c .before in wrap-above (s .args .exact) (s .pre) (simp (toZ-ofZ, s .fits .exact) at (c .if1 .taken))
 
-below : (c : tie.Then2) → SFits w32 (c .before .before .args .exact +ℤ pos 4294967296) × (c .before .before .args .exact +ℤ pos 4294967296 ≡ wrap (c .before .before .args .exact))
-below c = let f = c .before .before .fits .exact in wrap-below (c .before .before .args .exact) (c .before .before .pre) (simp toZ-ofZ at (c .if2 .taken))
+below : (c : tie.Then2) → let z = c .before .before .args .exact in SFits w32 (z +ℤ pos 4294967296) × (z +ℤ pos 4294967296 ≡ wrap z)
+below c = let s = c .before .before in wrap-below (s .args .exact) (s .pre) (simp (toZ-ofZ, s .fits .exact) at (c .if2 .taken))
 
 inside : (c : tie.Else2) → SFits w32 (c .before .before .args .exact)
-inside c = let f = c .before .before .fits .exact in within (c .before .before .args .exact) (simp toZ-ofZ at (c .before .if1 .left)) (simp toZ-ofZ at (c .if2 .left))
+inside c =
+    let s = c .before .before in
+    within (s .args .exact) (simp (toZ-ofZ, s .fits .exact) at (c .before .if1 .left)) (simp (toZ-ofZ, s .fits .exact) at (c .if2 .left))
 
 sub-down : tie.Need-sub-down
 sub-down c = simp (toZ-ofZ, c .before .fits .exact) (widen (above c .0))

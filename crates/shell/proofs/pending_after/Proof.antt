@@ -1,6 +1,6 @@
 -- `shell::pending_after` meets its contract. Assumes nothing.
-use Rattle.shell.specs.Channel.{pendingAfter}
 use borrow.Author.Needs.{needs}
+use Rattle.shell.specs.Channel.{pendingAfter}
 use Rattle.shell.proofs.pending_after.Statement.{statement}
 use Rattle.shell.proofs.pending_after.Tie as tie
 

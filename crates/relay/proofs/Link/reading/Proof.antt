@@ -1,6 +1,5 @@
 -- `relay::Link::reading` meets its contract: four letters, by the link and the stop. Assumes nothing.
 use borrow.Author.Needs.{needs}
-use lib.IntN.{ℤ}
 use mir.Syntax.{w32}
 use mir.Val.{SFits}
 use mir.Facts.{toZ-ofZ}
@@ -10,12 +9,14 @@ use Rattle.relay.proofs.Link.reading.Tie as tie
 
 returns : tie.Need-returns
 unfolding reading letter
-returns c = let f : SFits w32 (c .before .before .before .args .self .value) = search needs in
+returns c =
+    let f : SFits w32 (c .before .before .before .args .self .value) = search needs in
     rw (c .before .before .if1 .taken, c .before .if2 .taken, toZ-ofZ f)
 
 returns-2 : tie.Need-returns-2
 unfolding reading letter
-returns-2 c = let f : SFits w32 (c .before .before .before .args .self .value) = search needs in
+returns-2 c =
+    let f : SFits w32 (c .before .before .before .args .self .value) = search needs in
     rw (c .before .before .if1 .taken, c .before .if2 .left, toZ-ofZ f)
 
 returns-3 : tie.Need-returns-3

@@ -1,11 +1,10 @@
 -- `relay::Row::link_at` meets its contract: link 0 as given, the others by the station above them. Assumes nothing.
-use mathlib.Core.Path.{_≡_, sym, _∙_}
-use Prim.Native.Nat.{suc, _-_, _<_}
+use mathlib.Core.Path.{_∙_}
 use native.Mathlib.Omega.{arith}
+use borrow.Author.Needs.{needs}
 use Rattle.relay.specs.Link.{token}
 use Rattle.relay.specs.RowLaws.{linkAt}
 use Rattle.relay.specs.RowCycleLaws.{link-above}
-use borrow.Author.Needs.{needs}
 use Rattle.relay.proofs.Row.link_at.Statement.{statement}
 use Rattle.relay.proofs.Row.link_at.Tie as tie
 

@@ -1,10 +1,9 @@
 -- `relay::Row::station_after` meets its contract: the station's cycle between its two links. Assumes nothing.
 use mathlib.Core.Path.{_≡_, _∙_}
 use native.Mathlib.Numerals.{add-one}
-use native.Mathlib.Omega.{arith}
+use borrow.Author.Needs.{needs}
 use lib.ListN.{length, length-map}
 use Rattle.relay.specs.RowCycleLaws.{station-turn}
-use borrow.Author.Needs.{needs}
 use Rattle.relay.proofs.Row.station_after.Statement.{statement}
 use Rattle.relay.proofs.Row.station_after.Tie as tie
 
@@ -27,7 +26,8 @@ after-requires : tie.Need-after-requires
 after-requires c κs = search needs
 
 returns : tie.Need-returns
-returns c = let below = c .before in
+returns c =
+    let below = c .before in
     let above = below .before in
     let s = above .before .before in
     let a = s .args in

@@ -1,6 +1,5 @@
 -- `relay::Station::empty` meets its contract. Assumes nothing.
 use mathlib.Core.Path.{refl}
-use mir.Facts.{toZ-ofZ}
 use Rattle.laws.specs.Tokens.{padded}
 use Rattle.relay.specs.Station.{stationOf}
 use Rattle.relay.proofs.Station.empty.Statement.{statement}

@@ -1,14 +1,14 @@
 -- `relay::Station::link` meets its contract: a station that holds a token shows its first. Assumes nothing.
-use native.Mathlib.Omega.{arith}
 use mathlib.Core.Path.{_≡_}
 use Prim.Native.Nat.{_<_}
+use native.Mathlib.Omega.{arith}
+use borrow.Author.Needs.{needs}
 use lib.IntN.{pos}
 use lib.ListN.{length, getD}
 use mir.Facts.{toZ-ofZ}
 use Rattle.laws.specs.SignedLaws.{told}
 use Rattle.relay.specs.Link.{linkOf}
 use Rattle.relay.specs.StationLaws.{held-none, link-held}
-use borrow.Author.Needs.{needs}
 use Rattle.relay.proofs.Station.link.Statement.{statement}
 use Rattle.relay.proofs.Station.link.Tie as tie
 
@@ -23,7 +23,8 @@ element-copy-out-shown : tie.Need-element-copy-out-shown
 element-copy-out-shown c = search needs
 
 returns-2 : tie.Need-returns-2
-returns-2 c = let s = c .before .before in
+returns-2 c =
+    let s = c .before .before in
     let h : 0 < s .args .t1 .count = omega arith in
     rw (link-held (s .args .t1) (long s) h, toZ-ofZ (told (getD (s .args .t1 .tokens) 0 (pos 0)) (c .shown .given)))
 

@@ -1,5 +1,4 @@
 -- `relay::Station::pair` meets its contract. Assumes nothing.
-use mathlib.Core.Path.{refl}
 use mir.Facts.{toZ-ofZ}
 use Rattle.laws.specs.Tokens.{padded}
 use Rattle.relay.specs.Station.{stationOf}

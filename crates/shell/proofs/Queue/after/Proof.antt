@@ -1,10 +1,7 @@
 -- `shell::Queue::after` meets its contract: a node that fires pops first, and an empty queue is passed by. Assumes nothing.
-use native.Mathlib.Omega.{arith}
-use mathlib.Core.Path.{_≡_, sym, _∙_}
 use borrow.Author.Needs.{needs}
 use borrow.Author.Tests.{eq-eqb, ne-eqb, not-true, not-false}
 use Rattle.shell.specs.Queue.{queueAfter}
-use borrow.Author.Needs.{needs}
 use Rattle.shell.proofs.Queue.after.Statement.{statement}
 use Rattle.shell.proofs.Queue.after.Tie as tie
 
@@ -17,7 +14,9 @@ returns c = rw (c .pushed .ensures, not-true (c .before .before .args .fires) (c
 
 returns-2 : tie.Need-returns-2
 unfolding queueAfter
-returns-2 c = let s = c .before .before .before in rw (not-false (s .args .fires) (c .before .before .if1 .left), eq-eqb (s .args .self .count) 0 (c .if2 .taken))
+returns-2 c =
+    let s = c .before .before .before in
+    rw (not-false (s .args .fires) (c .before .before .if1 .left), eq-eqb (s .args .self .count) 0 (c .if2 .taken))
 
 popped-requires : tie.Need-popped-requires
 popped-requires c κs = search needs
@@ -27,7 +26,8 @@ pushed-requires-2 c κs = search needs
 
 returns-3 : tie.Need-returns-3
 unfolding queueAfter
-returns-3 c = let e = c .before .before in
+returns-3 c =
+    let e = c .before .before in
     let s = e .before .before .before in
     rw (
       c .pushed2 .ensures,

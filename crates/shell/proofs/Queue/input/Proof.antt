@@ -2,6 +2,7 @@
 use mathlib.Core.Path.{_≡_}
 use Prim.Native.Nat.{_<_}
 use native.Mathlib.Omega.{arith}
+use borrow.Author.Needs.{needs}
 use lib.IntN.{pos}
 use lib.ListN.{length, getD}
 use mir.Facts.{toZ-ofZ}
@@ -10,7 +11,6 @@ use Rattle.relay.specs.Link.{token, linkOf}
 use Rattle.relay.specs.LinkLaws.{link-valid}
 use Rattle.shell.specs.Queue.{waiting}
 use Rattle.shell.specs.QueueLaws.{link-waiting}
-use borrow.Author.Needs.{needs}
 use Rattle.shell.proofs.Queue.input.Statement.{statement}
 use Rattle.shell.proofs.Queue.input.Tie as tie
 
@@ -29,7 +29,8 @@ element-copy-out-oldest : tie.Need-element-copy-out-oldest
 element-copy-out-oldest c = search needs
 
 returns-3 : tie.Need-returns-3
-returns-3 c = let s = c .before .before in
+returns-3 c =
+    let s = c .before .before in
     let q = s .args .t1 in
     let h : 0 < q .count = omega arith in
     rw (link-waiting q (token (s .args .link)) (long s) h, toZ-ofZ (told (getD (q .tokens) 0 (pos 0)) (c .oldest .given)))

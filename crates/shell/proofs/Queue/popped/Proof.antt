@@ -1,6 +1,7 @@
 -- `shell::Queue::popped` meets its contract: places 1 to 7 move up, and the last is 0. Assumes nothing.
-use mathlib.Core.Path.{_≡_, sym, _∙_}
+use mathlib.Core.Path.{_≡_}
 use Prim.Native.Nat.{ℕ, _<_, _^_}
+use borrow.Author.Needs.{needs}
 use lib.IntN.{pos}
 use lib.ListN.{length, getD}
 use lib.Signed.{mag}
@@ -9,7 +10,6 @@ use mir.Val.{SFits}
 use mir.Facts.{toZ-ofZ}
 use Rattle.laws.specs.SignedLaws.{told}
 use Rattle.shell.specs.QueueLaws.{popped-is}
-use borrow.Author.Needs.{needs}
 use Rattle.shell.proofs.Queue.popped.Statement.{statement}
 use Rattle.shell.proofs.Queue.popped.Tie as tie
 
@@ -41,7 +41,8 @@ sub-t26 : tie.Need-sub-t26
 sub-t26 c = search needs
 
 returns : tie.Need-returns
-returns c = let c1 = c .before in
+returns c =
+    let c1 = c .before in
     let c2 = c1 .before in
     let c3 = c2 .before in
     let c4 = c3 .before in

@@ -1,6 +1,5 @@
 -- `shell::Queue::pushed` meets its contract: the code's test is the definition's. Assumes nothing.
 use mathlib.Core.Bool.{not, _&&_}
-use mathlib.Core.Path.{_≡_}
 use Prim.Native.Nat.{_<_}
 use native.Mathlib.Omega.{arith}
 use borrow.Author.Needs.{needs}
@@ -11,7 +10,6 @@ use mir.Val.{SFits}
 use mir.Facts.{toZ-ofZ}
 use Rattle.laws.specs.Cases.{and-right}
 use Rattle.shell.specs.QueueLaws.{push-flag}
-use borrow.Author.Needs.{needs}
 use Rattle.shell.proofs.Queue.pushed.Statement.{statement}
 use Rattle.shell.proofs.Queue.pushed.Tie as tie
 
@@ -33,7 +31,8 @@ add-queue : tie.Need-add-queue
 add-queue c = let h = room (c .before) in omega arith
 
 returns : tie.Need-returns
-returns c = let a = c .before .before .before .args in
+returns c =
+    let a = c .before .before .before .args in
     let f : SFits w32 (a .link .value) = search needs in
     rw (toZ-ofZ f, push-flag (a .self) (a .link) (a .stop), c .before .if1 .taken)
 
