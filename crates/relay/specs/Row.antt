@@ -2,8 +2,9 @@
 -- `link` is what the link that enters the row shows, and `stop` is the stop on the link that leaves it.
 use mathlib.Core.Bool.{Bool}
 use mathlib.Core.List.{List, [], _∷_, _++_}
+use Prim.Native.Nat.{ℕ, zero, suc}
 use lib.IntN.{ℤ}
-use lib.ListN.{take}
+use lib.ListN.{getD, take}
 use Rattle.laws.specs.Tokens.{two}
 use Rattle.relay.specs.Station.{placeAfter}
 
@@ -26,3 +27,8 @@ rowAfter link (place ∷ row) stop = placeAfter link place (stopped row stop) �
 unfoldable pub contents : List (List ℤ) → List ℤ
 contents [] = []
 contents (place ∷ row) = contents row ++ place
+
+-- what link j shows, for a loop: "Link j above 0 is valid while station j holds a token, and shows the oldest". (Its stop is `stopped (drop j row)`)
+unfoldable pub linkAt : List ℤ → List (List ℤ) → ℕ → List ℤ
+linkAt link row zero = link
+linkAt link row (suc j) = take 1 (getD row j [])

@@ -1,11 +1,12 @@
 -- A row of station records in one cycle: what `Row::cycle` answers.
 use mathlib.Core.Bool.{Bool}
-use mathlib.Core.List.{List, map, _++_}
+use mathlib.Core.List.{List, [], map, _++_}
 use Prim.Native.Nat.{ℕ}
 use lib.IntN.{ℤ}
-use lib.ListN.{take, drop}
+use lib.ListN.{getD, take, drop}
 use Rattle.laws.specs.Tokens.{some}
 use Rattle.relay.specs.declared.Link.{Link}
+use Rattle.relay.specs.declared.Station.{Station}
 use Rattle.relay.specs.declared.Row.{Row}
 use Rattle.relay.specs.declared.RowCycle.{RowCycle}
 use Rattle.relay.specs.Link.{token, linkOf, passing}
@@ -25,3 +26,12 @@ rowCycle row n link stop =
       leaving = linkOf (leaving (token link) (places row n));
       taken = some (passing (token link) (stopped (places row n) stop));
     }
+
+-- ---- for the loop over the records
+-- station j of the first n after the cycle
+unfoldable pub stationAfter : Row → ℕ → Link → Bool → ℕ → Station
+stationAfter row n link stop j = stationOf (getD (rowAfter (token link) (places row n) stop) j [])
+
+-- what is read past the end of an array of stations
+abbrev pub noStation : Station
+noStation = record { tokens = []; count = 0 }

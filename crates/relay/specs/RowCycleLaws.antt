@@ -12,19 +12,14 @@ use Rattle.laws.specs.Table.{table, tableOver}
 use Rattle.laws.specs.TableLaws.{table-map}
 use Rattle.laws.specs.TokensLaws.{take-min, drop-min}
 use Rattle.relay.specs.declared.Link.{Link}
-use Rattle.relay.specs.declared.Station.{Station}
 use Rattle.relay.specs.declared.Row.{Row}
 use Rattle.relay.specs.declared.RowCycle.{RowCycle}
 use Rattle.relay.specs.Link.{token, linkOf}
 use Rattle.relay.specs.LinkLaws.{linkOf-take, token-of, token-few, passing-some}
 use Rattle.relay.specs.Station.{held, stationOf, placeAfter}
-use Rattle.relay.specs.Row.{stopped, leaving, rowAfter}
-use Rattle.relay.specs.RowLaws.{linkAt, link-few, after-at, leaving-at, length-after}
-use Rattle.relay.specs.RowCycle.{places, rowCycle}
-
--- what is read past the end of an array of stations
-abbrev pub noStation : Station
-noStation = record { tokens = []; count = 0 }
+use Rattle.relay.specs.Row.{stopped, leaving, rowAfter, linkAt}
+use Rattle.relay.specs.RowLaws.{link-few, after-at, leaving-at, length-after}
+use Rattle.relay.specs.RowCycle.{places, rowCycle, stationAfter, noStation}
 
 -- place i is what station i holds
 pub place-at : (row : Row) (n i : ℕ) → i < n → getD (places row n) i [] ≡ held (getD (row .stations) i noStation)
@@ -50,10 +45,6 @@ link-above link row (suc j) h k =
 -- what a link shows is no more than one token
 pub token-link : (link : Link) (row : List (List ℤ)) (j : ℕ) → token (linkOf (linkAt (token link) row j)) ≡ linkAt (token link) row j
 token-link link row j = token-of (linkAt (token link) row j) ∙ take-all 1 (linkAt (token link) row j) (link-few (token link) row j (token-few link))
-
--- station j of the first n after the cycle
-unfoldable pub stationAfter : Row → ℕ → Link → Bool → ℕ → Station
-stationAfter row n link stop j = stationOf (getD (rowAfter (token link) (places row n) stop) j [])
 
 pub length-places : (row : Row) (n : ℕ) → length (row .stations) ≡ 8 → n ≤ 8 → length (places row n) ≡ n
 unfolding places

@@ -13,7 +13,7 @@ use Rattle.relay.specs.Link.{passing}
 use Rattle.relay.specs.LinkLaws.{take-few}
 use Rattle.relay.specs.Station.{stationOf, placeAfter}
 use Rattle.relay.specs.StationLaws.{place-few, station-stored}
-use Rattle.relay.specs.Row.{stopped, leaving, rowAfter, contents}
+use Rattle.relay.specs.Row.{stopped, leaving, rowAfter, contents, linkAt}
 
 -- a place hands on its oldest token or keeps it
 hand-on : (place : List ℤ) (stop : Bool) → passing (take 1 place) stop ++ dropIf (not stop) place ≡ place
@@ -71,11 +71,6 @@ pub row-stored :
 row-stored link row stop l h j = station-stored (getD (rowAfter link row stop) j []) (row-few link row stop l h j)
 
 -- ---- by index
--- what link j shows: "Link j above 0 is valid while station j holds a token, and shows the oldest"
-unfoldable pub linkAt : List ℤ → List (List ℤ) → ℕ → List ℤ
-linkAt link row zero = link
-linkAt link row (suc j) = take 1 (getD row j [])
-
 pub link-few : (link : List ℤ) (row : List (List ℤ)) (j : ℕ) → length link ≤ 1 → length (linkAt link row j) ≤ 1
 unfolding linkAt
 link-few link row zero h = h

@@ -4,12 +4,10 @@ ghost use mathlib.Core.Path.{_≡_};
 ghost use Prim.Native.Nat.{_≤_, _<_, min};
 ghost use lib.ListN.{drop};
 ghost use Rattle.laws.specs.Tokens.{two};
-ghost use Rattle.relay.specs.Link.{token, linkOf, letter, reading};
+ghost use Rattle.relay.specs.Link.{token, linkOf, reading};
 ghost use Rattle.relay.specs.Station.{held, stationOf, placeAfter};
-ghost use Rattle.relay.specs.Row.{stopped};
-ghost use Rattle.relay.specs.RowLaws.{linkAt};
-ghost use Rattle.relay.specs.RowCycle.{places, rowCycle};
-ghost use Rattle.relay.specs.RowCycleLaws.{stationAfter};
+ghost use Rattle.relay.specs.Row.{stopped, linkAt};
+ghost use Rattle.relay.specs.RowCycle.{places, rowCycle, stationAfter};
 
 // What a link shows: a token while it is valid. The value of a void link is not looked at.
 pub struct Link {

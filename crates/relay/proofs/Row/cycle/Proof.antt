@@ -6,7 +6,8 @@ use native.Mathlib.Omega.{arith}
 use lib.ListN.{length, length-map}
 use Rattle.laws.specs.Table.{table, tableOver}
 use Rattle.laws.specs.TableLaws.{over-set}
-use Rattle.relay.specs.RowCycleLaws.{stationAfter, cycle-turn}
+use Rattle.relay.specs.RowCycleLaws.{cycle-turn}
+use Rattle.relay.specs.RowCycle.{stationAfter}
 use Rattle.relay.proofs.Row.cycle.Statement.{statement}
 use Rattle.relay.proofs.Row.cycle.Tie as tie
 

@@ -3,7 +3,7 @@ use mathlib.Core.Path.{_∙_}
 use native.Mathlib.Omega.{arith}
 use borrow.Author.Needs.{needs}
 use Rattle.relay.specs.Link.{token}
-use Rattle.relay.specs.RowLaws.{linkAt}
+use Rattle.relay.specs.Row.{linkAt}
 use Rattle.relay.specs.RowCycleLaws.{link-above}
 use Rattle.relay.proofs.Row.link_at.Statement.{statement}
 use Rattle.relay.proofs.Row.link_at.Tie as tie
