@@ -9,7 +9,7 @@ use Rattle.laws.specs.Below.{allBelow, anyBelow, sumBelow}
 use Rattle.laws.specs.Choice.{_if_else_}
 use Rattle.laws.specs.Range.{outside}
 use Rattle.laws.specs.Signed.{signed}
-use Rattle.laws.specs.Tokens.{some, two, oneIf, dropIf, padded}
+use Rattle.laws.specs.Lists.{holds, holdsTwo, oneIf, dropIf, padded}
 use Rattle.laws.specs.Table.{table, tableOver}
 
 -- 0, 1, 2 are all below 3, and 3 is not; 2 is found below 3 and not below 2; 0 + 1 + 2 + 3 + 4
@@ -32,7 +32,7 @@ ranges = (refl, refl, refl, refl)
 tokens :
     let one : List ℕ = 7 ∷ [] in
     let pair : List ℕ = 7 ∷ 8 ∷ [] in
-    (some {A = ℕ} [] ≡ false) × (some one ≡ true) × (two one ≡ false) × (two pair ≡ true) ×
+    (holds {A = ℕ} [] ≡ false) × (holds one ≡ true) × (holdsTwo one ≡ false) × (holdsTwo pair ≡ true) ×
     (oneIf {A = ℕ} true 7 ≡ one) × (oneIf {A = ℕ} false 7 ≡ []) × (dropIf true pair ≡ 8 ∷ []) × (dropIf false pair ≡ pair) ×
     (padded 3 0 one ≡ 7 ∷ 0 ∷ 0 ∷ []) × (padded 2 0 pair ≡ pair)
 unfolding padded

@@ -7,8 +7,8 @@ pub mod Range
 pub mod RangeLaws
 pub mod Table
 pub mod TableLaws
-pub mod Tokens
-pub mod TokensLaws
+pub mod Lists
+pub mod ListsLaws
 pub mod Signed
 pub mod SignedLaws
 pub mod Examples

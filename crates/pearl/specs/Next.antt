@@ -24,15 +24,15 @@ choose a b c = b if ltZ a (pos 0) else c
 -- the table's last column, in the integers: nothing is wrapped yet. A number that is no kind has 0 there.
 unfoldable pub exact : ℕ → ℤ → ℤ → ℤ → ℤ → ℤ
 exact kind s a b c =
-    (s +ℤ pos 1) if eqb kind 1 else
-    a if eqb kind 2 else
-    (s +ℤ a) if eqb kind 3 else
-    (pos 0 -ℤ a) if eqb kind 4 else
-    halve a if eqb kind 5 else
-    (a +ℤ b) if eqb kind 6 else
-    (a -ℤ b) if eqb kind 7 else
-    larger a b if eqb kind 8 else
-    choose a b c if eqb kind 9 else
+    (s +ℤ pos 1) if eqb kind 1 else  -- count
+    a if eqb kind 2 else  -- hold
+    (s +ℤ a) if eqb kind 3 else  -- total
+    (pos 0 -ℤ a) if eqb kind 4 else  -- negate
+    halve a if eqb kind 5 else  -- halve
+    (a +ℤ b) if eqb kind 6 else  -- sum
+    (a -ℤ b) if eqb kind 7 else  -- difference
+    larger a b if eqb kind 8 else  -- larger
+    choose a b c if eqb kind 9 else  -- choose
     pos 0
 
 -- the next value

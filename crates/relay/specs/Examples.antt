@@ -6,7 +6,7 @@ use Prim.Native.Nat.{ℕ}
 use lib.Dec.{eqb, ltb}
 use lib.IntN.{ℤ, pos}
 use lib.ListN.{replicate}
-use Rattle.laws.specs.Tokens.{oneIf, padded}
+use Rattle.laws.specs.Lists.{oneIf, padded}
 use Rattle.relay.specs.declared.Link.{Link}
 use Rattle.relay.specs.declared.Reading.{Reading}
 use Rattle.relay.specs.declared.Row.{Row}

@@ -4,7 +4,7 @@ use mathlib.Core.List.{List, [], _∷_}
 use Prim.Native.Nat.{ℕ}
 use lib.IntN.{ℤ, pos}
 use Rattle.laws.specs.Choice.{_if_else_}
-use Rattle.laws.specs.Tokens.{oneIf}
+use Rattle.laws.specs.Lists.{oneIf}
 use Rattle.relay.specs.declared.Link.{Link}
 use Rattle.relay.specs.declared.Reading.{Reading}
 

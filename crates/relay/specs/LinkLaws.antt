@@ -7,8 +7,8 @@ use native.Mathlib.Nat.{not-suc-le-zero}
 use native.Mathlib.Omega.{arith}
 use lib.IntN.{ℤ, pos}
 use lib.ListN.{length, getD, take}
-use Rattle.laws.specs.Tokens.{some, oneIf}
-use Rattle.laws.specs.TokensLaws.{oneIf-few, oneIf-some}
+use Rattle.laws.specs.Lists.{holds, oneIf}
+use Rattle.laws.specs.ListsLaws.{oneIf-few, oneIf-holds}
 use Rattle.relay.specs.declared.Link.{Link}
 use Rattle.relay.specs.Link.{token, linkOf, passing, staying}
 
@@ -17,9 +17,9 @@ pub token-few : (link : Link) → length (token link) ≤ 1
 unfolding token
 token-few link = oneIf-few (link .valid) (link .value)
 
-pub token-valid : (link : Link) → some (token link) ≡ link .valid
+pub token-valid : (link : Link) → holds (token link) ≡ link .valid
 unfolding token
-token-valid link = oneIf-some (link .valid) (link .value)
+token-valid link = oneIf-holds (link .valid) (link .value)
 
 -- a valid link is all that there is to tell of it
 pub link-valid : (link : Link) → link .valid ≡ true → link ≡ linkOf (token link)
@@ -45,10 +45,10 @@ unfolding linkOf
 link-first [] ys e = absurd (false≢true e)
 link-first (x ∷ xs) ys e = refl
 
-pub valid-some : (xs : List ℤ) → linkOf xs .valid ≡ true → some xs ≡ true
+pub valid-holds : (xs : List ℤ) → linkOf xs .valid ≡ true → holds xs ≡ true
 unfolding linkOf
-valid-some [] e = e
-valid-some (x ∷ xs) e = refl
+valid-holds [] e = e
+valid-holds (x ∷ xs) e = refl
 
 pub linkOf-take : (place : List ℤ) → linkOf (take 1 place) ≡ linkOf place
 unfolding linkOf
@@ -69,12 +69,12 @@ passing-few link true = omega arith
 passing-few link false = omega arith
 
 -- a token passes exactly when the link is valid and not stopped
-passing-flag : (valid stop : Bool) (x : ℤ) → some (passing (oneIf valid x) stop) ≡ valid && not stop
+passing-flag : (valid stop : Bool) (x : ℤ) → holds (passing (oneIf valid x) stop) ≡ valid && not stop
 passing-flag true true x = refl
 passing-flag true false x = refl
 passing-flag false true x = refl
 passing-flag false false x = refl
 
-pub passing-some : (link : Link) (stop : Bool) → some (passing (token link) stop) ≡ link .valid && not stop
+pub passing-holds : (link : Link) (stop : Bool) → holds (passing (token link) stop) ≡ link .valid && not stop
 unfolding token
-passing-some link stop = passing-flag (link .valid) stop (link .value)
+passing-holds link stop = passing-flag (link .valid) stop (link .value)

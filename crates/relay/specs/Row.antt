@@ -5,13 +5,13 @@ use mathlib.Core.List.{List, [], _∷_, _++_}
 use Prim.Native.Nat.{ℕ, zero, suc}
 use lib.IntN.{ℤ}
 use lib.ListN.{getD, take}
-use Rattle.laws.specs.Tokens.{two}
+use Rattle.laws.specs.Lists.{holdsTwo}
 use Rattle.relay.specs.Station.{placeAfter}
 
 -- is the link that enters the row stopped: "while station j + 1 holds 2 tokens", and as given where there is no station
 unfoldable pub stopped : List (List ℤ) → Bool → Bool
 stopped [] stop = stop
-stopped (place ∷ row) stop = two place
+stopped (place ∷ row) stop = holdsTwo place
 
 -- what the link that leaves the row shows: the oldest token of the last place, and the entering link's where there is no station
 unfoldable pub leaving : List ℤ → List (List ℤ) → List ℤ

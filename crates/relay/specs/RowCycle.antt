@@ -4,7 +4,7 @@ use mathlib.Core.List.{List, [], map, _++_}
 use Prim.Native.Nat.{ℕ}
 use lib.IntN.{ℤ}
 use lib.ListN.{getD, take, drop}
-use Rattle.laws.specs.Tokens.{some}
+use Rattle.laws.specs.Lists.{holds}
 use Rattle.relay.specs.declared.Link.{Link}
 use Rattle.relay.specs.declared.Station.{Station}
 use Rattle.relay.specs.declared.Row.{Row}
@@ -24,7 +24,7 @@ rowCycle row n link stop =
     record {
       row = record { stations = map stationOf (rowAfter (token link) (places row n) stop) ++ drop n (row .stations) };
       leaving = linkOf (leaving (token link) (places row n));
-      taken = some (passing (token link) (stopped (places row n) stop));
+      taken = holds (passing (token link) (stopped (places row n) stop));
     }
 
 -- ---- for the loop over the records

@@ -10,12 +10,12 @@ use lib.ListN.{length, getD, take, drop, length-map, length-take, List·getD-map
 use lib.Seq.{getD-take, take-all}
 use Rattle.laws.specs.Table.{table, tableOver}
 use Rattle.laws.specs.TableLaws.{table-map}
-use Rattle.laws.specs.TokensLaws.{take-min, drop-min}
+use Rattle.laws.specs.ListsLaws.{take-min, drop-min}
 use Rattle.relay.specs.declared.Link.{Link}
 use Rattle.relay.specs.declared.Row.{Row}
 use Rattle.relay.specs.declared.RowCycle.{RowCycle}
 use Rattle.relay.specs.Link.{token, linkOf}
-use Rattle.relay.specs.LinkLaws.{linkOf-take, token-of, token-few, passing-some}
+use Rattle.relay.specs.LinkLaws.{linkOf-take, token-of, token-few, passing-holds}
 use Rattle.relay.specs.Station.{held, stationOf, placeAfter}
 use Rattle.relay.specs.Row.{stopped, leaving, rowAfter, linkAt}
 use Rattle.relay.specs.RowLaws.{link-few, after-at, leaving-at, length-after}
@@ -84,5 +84,5 @@ module _ (row : Row) (long : length (row .stations) ≡ 8) (n : ℕ) (short : n 
   unfolding rowCycle tableOver
   cycle-turn m e after out held-up a b d =
       let k : min m (length (row .stations)) ≡ n = rw long (sym e) in
-      rw (a, b, d, done, link-places (token link) row n n (omega arith) short, ← (passing-some link (stopped (places row n) stop)))
+      rw (a, b, d, done, link-places (token link) row n n (omega arith) short, ← (passing-holds link (stopped (places row n) stop)))
       (rw (same row m n k, drop-min m (row .stations), k, leaving-at, length-places row n long short))

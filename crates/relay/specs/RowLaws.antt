@@ -8,7 +8,7 @@ use native.Mathlib.Omega.{arith}
 use lib.IntN.{ℤ, pos}
 use lib.ListN.{length, getD, take, drop, take-append-drop, drop-of-length-le}
 use lib.Seq.{drop-cons}
-use Rattle.laws.specs.Tokens.{two, dropIf, Stored}
+use Rattle.laws.specs.Lists.{holdsTwo, dropIf, Stored}
 use Rattle.relay.specs.Link.{passing}
 use Rattle.relay.specs.LinkLaws.{take-few}
 use Rattle.relay.specs.Station.{stationOf, placeAfter}
@@ -29,7 +29,7 @@ unfolding stopped leaving rowAfter contents placeAfter
 row-fifo link [] stop = append-nil (passing link stop)
 row-fifo link (place ∷ row) stop =
     let s = stopped row stop in
-    let enters = passing link (two place) in
+    let enters = passing link (holdsTwo place) in
     sym (append-assoc (passing (leaving (take 1 place) row) stop) (contents (rowAfter (take 1 place) row stop)) (placeAfter link place s))
     ∙ ap (λ (t : List ℤ). t ++ placeAfter link place s) (row-fifo (take 1 place) row stop)
     ∙ append-assoc (contents row) (passing (take 1 place) s) (placeAfter link place s)
@@ -88,7 +88,7 @@ leaving-at link (place ∷ []) = refl
 leaving-at link (place ∷ next ∷ row) = leaving-at (take 1 place) (next ∷ row)
 
 -- whether link j is stopped: "Link j below r is stopped while station j + 1 holds 2 tokens"
-pub stopped-inside : (row : List (List ℤ)) (stop : Bool) (j : ℕ) → j < length row → stopped (drop j row) stop ≡ two (getD row j [])
+pub stopped-inside : (row : List (List ℤ)) (stop : Bool) (j : ℕ) → j < length row → stopped (drop j row) stop ≡ holdsTwo (getD row j [])
 unfolding stopped
 stopped-inside row stop j h = rw (drop-cons row j [] h)
 

@@ -3,7 +3,7 @@ use mathlib.Core.Bool.{Bool, not}
 use mathlib.Core.List.{List, _++_}
 use lib.IntN.{ℤ, pos}
 use lib.ListN.{length, take}
-use Rattle.laws.specs.Tokens.{two, dropIf, padded}
+use Rattle.laws.specs.Lists.{holdsTwo, dropIf, padded}
 use Rattle.relay.specs.declared.Station.{Station}
 use Rattle.relay.specs.Link.{passing}
 
@@ -18,4 +18,4 @@ stationOf tokens = record { tokens = padded 2 (pos 0) tokens; count = length tok
 -- a place after a cycle: its oldest token leaves unless the link below is stopped, and what passes on the link above comes in behind the others.
 -- That link is stopped while the place holds two tokens
 unfoldable pub placeAfter : List ℤ → List ℤ → Bool → List ℤ
-placeAfter link place stop = dropIf (not stop) place ++ passing link (two place)
+placeAfter link place stop = dropIf (not stop) place ++ passing link (holdsTwo place)

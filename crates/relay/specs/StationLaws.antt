@@ -14,8 +14,8 @@ use lib.Seq.{take-all}
 use Rattle.laws.specs.Cases.{lt-or-ge}
 use Rattle.laws.specs.Table.{table}
 use Rattle.laws.specs.TableLaws.{table-own}
-use Rattle.laws.specs.Tokens.{two, dropIf, Stored}
-use Rattle.laws.specs.TokensLaws.{take-padded, stored-padded, stored-own, stored-count}
+use Rattle.laws.specs.Lists.{holdsTwo, dropIf, Stored}
+use Rattle.laws.specs.ListsLaws.{take-padded, stored-padded, stored-own, stored-count}
 use Rattle.relay.specs.declared.Link.{Link}
 use Rattle.relay.specs.declared.Station.{Station}
 use Rattle.relay.specs.Link.{token, linkOf}
@@ -73,14 +73,14 @@ module _ (s : Station) (long : length (s .tokens) ≡ 2) where
   unfolding held
   link-held h = link-take (s .count) (s .tokens) h (omega arith)
 
-  few : s .count < 2 → two (held s) ≡ false
+  few : s .count < 2 → holdsTwo (held s) ≡ false
   few l =
       ⊎-elim
       (λ (z : s .count < 1). let e : s .count ≡ 0 = omega arith in rw (held-none e))
       (λ (z : 1 ≤ s .count). let e : s .count ≡ 1 = omega arith in rw (held-one e))
       (lt-or-ge (s .count) 1)
 
-  pub full-held : two (held s) ≡ leb 2 (s .count)
+  pub full-held : holdsTwo (held s) ≡ leb 2 (s .count)
   full-held =
       ⊎-elim
       (λ (l : s .count < 2). rw (lt-leb 2 (s .count) l) (few l))

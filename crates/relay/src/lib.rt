@@ -3,7 +3,7 @@ ghost use mathlib.Core.List.{[], _∷_};
 ghost use mathlib.Core.Path.{_≡_};
 ghost use Prim.Native.Nat.{_≤_, _<_, min};
 ghost use lib.ListN.{drop};
-ghost use Rattle.laws.specs.Tokens.{two};
+ghost use Rattle.laws.specs.Lists.{holdsTwo};
 ghost use Rattle.relay.specs.Link.{token, linkOf, reading};
 ghost use Rattle.relay.specs.Station.{held, stationOf, placeAfter};
 ghost use Rattle.relay.specs.Row.{stopped, linkAt};
@@ -133,7 +133,7 @@ impl Station {
 
     // Whether it holds two tokens, which stops the link that enters it.
     pub fn full(self) -> bool
-        ensures { λ r. ⌜ r ≡ two (held self) ⌝ }
+        ensures { λ r. ⌜ r ≡ holdsTwo (held self) ⌝ }
     {
         Station::DEPTH <= self.count
     }

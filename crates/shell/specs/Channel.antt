@@ -5,7 +5,7 @@ use Prim.Native.Nat.{ℕ}
 use lib.IntN.{ℤ}
 use lib.ListN.{length}
 use Rattle.laws.specs.Choice.{_if_else_}
-use Rattle.laws.specs.Tokens.{dropIf}
+use Rattle.laws.specs.Lists.{dropIf}
 use Rattle.relay.specs.declared.Link.{Link}
 use Rattle.relay.specs.declared.Reading.{Reading}
 use Rattle.relay.specs.Link.{linkOf, passing, staying, reading}

@@ -11,11 +11,11 @@ use lib.IntN.{ℤ}
 use lib.ListN.{length, length-append}
 use Rattle.laws.specs.Choice.{_if_else_}
 use Rattle.laws.specs.Cases.{true-or-false}
-use Rattle.laws.specs.Tokens.{some, oneIf, dropIf}
-use Rattle.laws.specs.TokensLaws.{dropIf-append, length-dropIf}
+use Rattle.laws.specs.Lists.{holds, oneIf, dropIf}
+use Rattle.laws.specs.ListsLaws.{dropIf-append, length-dropIf}
 use Rattle.relay.specs.declared.Link.{Link}
 use Rattle.relay.specs.Link.{linkOf, passing, staying}
-use Rattle.relay.specs.LinkLaws.{link-first, valid-some, passing-staying}
+use Rattle.relay.specs.LinkLaws.{link-first, valid-holds, passing-staying}
 use Rattle.relay.specs.Row.{stopped, leaving, rowAfter, contents}
 use Rattle.relay.specs.RowLaws.{row-fifo, leaving-first, behind}
 use Rattle.shell.specs.Queue.{full}
@@ -32,13 +32,13 @@ oldest-first ch e =
 -- a node that fires still finds a token once what passes is in the queue: only a queue that holds one is full
 still-ready :
     (depth : ℕ) (queue link : List ℤ) → 1 ≤ depth → linkOf (queue ++ link) .valid ≡ true
-    → some (queue ++ passing link (full depth (length queue))) ≡ true
+    → holds (queue ++ passing link (full depth (length queue))) ≡ true
 unfolding linkOf full
-still-ready depth [] link h e = rw (lt-leb depth 0 h) (valid-some link e)
+still-ready depth [] link h e = rw (lt-leb depth 0 h) (valid-holds link e)
 still-ready depth (x ∷ queue) link h e = refl
 
 -- what stays at a node that fires is nothing
-cleared : (source : List ℤ) (stop : Bool) → blocked (some source) stop ≡ false → staying source stop ≡ []
+cleared : (source : List ℤ) (stop : Bool) → blocked (holds source) stop ≡ false → staying source stop ≡ []
 unfolding blocked
 cleared source false e = refl
 cleared [] true e = refl
@@ -67,7 +67,7 @@ module _ (depth : ℕ) (ch : Channel) (to from : Bool) (value : ℤ) where
   -- FIFO law of a channel: where its to node fires the first token is gone, and where its from node fires the new one is the last. A node fires only
   -- if its inputs are ready and no token that it sends is blocked
   pub channel-fifo :
-      1 ≤ depth → (to ≡ true → input ch .valid ≡ true) → (from ≡ true → blocked (some (ch .source)) (stopAbove depth ch) ≡ false)
+      1 ≤ depth → (to ≡ true → input ch .valid ≡ true) → (from ≡ true → blocked (holds (ch .source)) (stopAbove depth ch) ≡ false)
       → tokens (channelAfter depth ch to from value) ≡ dropIf to (tokens ch) ++ oneIf from value
   unfolding tokens channelAfter stopBelow stopAbove arriving input
   channel-fifo deep ready clear =
@@ -82,7 +82,7 @@ module _ (depth : ℕ) (ch : Channel) (to from : Bool) (value : ℤ) where
       ∙ ap (λ (t : List ℤ). dropIf to t)
       (regroup (ch .queue) a (contents (ch .row)) after (ch .source) (passing (ch .source) above) stay new
       (row-fifo (ch .source) (ch .row) stop) (passing-staying (ch .source) above))
-      ∙ dropIf-append (tokens ch) new to (λ e. valid-some (tokens ch) (ap (λ (l : Link). l .valid) (oldest-first ch (ready e)) ∙ ready e))
+      ∙ dropIf-append (tokens ch) new to (λ e. valid-holds (tokens ch) (ap (λ (l : Link). l .valid) (oldest-first ch (ready e)) ∙ ready e))
 
 -- what the from node shows as pending, after the cycle
 pub source-after :

@@ -8,7 +8,7 @@ use lib.Dec.{eqb}
 use lib.IntN.{ℤ, pos}
 use lib.ListN.{drop}
 use Rattle.laws.specs.Choice.{_if_else_}
-use Rattle.laws.specs.Tokens.{some, padded}
+use Rattle.laws.specs.Lists.{holds, padded}
 use Rattle.relay.specs.declared.Reading.{Reading}
 use Rattle.relay.specs.Link.{linkOf, letter, reading}
 use Rattle.relay.specs.Station.{placeAfter}
@@ -32,7 +32,7 @@ abbrev states : ℕ → Channel → ℕ → List ℕ → List ℕ → List Chann
 states depth ch v [] froms = ch ∷ []
 states depth ch v (to ∷ tos) [] = ch ∷ []
 states depth ch v (to ∷ tos) (from ∷ froms) =
-    let fires = eqb from 1 && not (blocked (some (ch .source)) (stopAbove depth ch)) in
+    let fires = eqb from 1 && not (blocked (holds (ch .source)) (stopAbove depth ch)) in
     let v′ = suc v if fires else v in
     ch ∷ states depth (channelAfter depth ch (eqb to 1 && input ch .valid) fires (pos v′)) v′ tos froms
 

@@ -6,7 +6,7 @@ use lib.Dec.{eqb, leb, ltb}
 use lib.IntN.{ℤ, pos}
 use lib.ListN.{length, take, drop, set}
 use Rattle.laws.specs.Choice.{_if_else_}
-use Rattle.laws.specs.Tokens.{padded}
+use Rattle.laws.specs.Lists.{padded}
 use Rattle.shell.specs.declared.Queue.{Queue}
 
 -- the tokens that a queue holds, oldest first

@@ -12,8 +12,8 @@ use lib.ListN.{length, getD, drop, set, length-append, drop-of-length-le}
 use Rattle.laws.specs.Table.{table}
 use Rattle.laws.specs.TableLaws.{table-own}
 use Rattle.laws.specs.Choice.{_if_else_}
-use Rattle.laws.specs.Tokens.{oneIf, dropIf, Stored}
-use Rattle.laws.specs.TokensLaws.{take-padded, padded-set, padded-drop, stored-padded, stored-own, stored-count}
+use Rattle.laws.specs.Lists.{oneIf, dropIf, Stored}
+use Rattle.laws.specs.ListsLaws.{take-padded, padded-set, padded-drop, stored-padded, stored-own, stored-count}
 use Rattle.relay.specs.declared.Link.{Link}
 use Rattle.relay.specs.Link.{token, linkOf, passing}
 use Rattle.relay.specs.LinkLaws.{link-take, link-first}

@@ -5,7 +5,7 @@ use mathlib.Core.Path.{_≡_, refl}
 use lib.IntN.{ℤ, pos}
 use lib.ListN.{replicate}
 use Rattle.laws.specs.Signed.{signed}
-use Rattle.laws.specs.Tokens.{padded}
+use Rattle.laws.specs.Lists.{padded}
 use Rattle.pearl.specs.Wrap.{wrap}
 use Rattle.pearl.specs.Next.{halve, larger, choose, exact, nextValue}
 use Rattle.relay.specs.declared.Link.{Link}
@@ -16,6 +16,7 @@ use Rattle.relay.specs.Station.{held, stationOf, placeAfter}
 use Rattle.relay.specs.Row.{stopped, leaving, rowAfter}
 use Rattle.relay.specs.RowCycle.{places, rowCycle}
 use Rattle.shell.specs.Queue.{waiting, queueOf, full, pushed, popped, queueAfter}
+use Rattle.shell.specs.Channel.{Channel, arriving, input, stopBelow, stopAbove, seen, channelAfter}
 use Rattle.starred.specs.Edges.{edges, given}
 
 -- a row of which the first station holds these tokens; a token offered on a link
@@ -37,19 +38,22 @@ pub record Starred : Type 0 where
   -- "an empty station, no stop below, token offered: shows I, takes it"
   pub empty-station : (v : ℤ) → relayed [] v ≡ record { row = first (v ∷ []); leaving = linkOf []; taken = true }
   pub shows-i : reading (linkOf []) false ≡ record { letter = 73; value = pos 0 }
-  -- "an empty queue of depth 1 whose node fires on arrival stays empty": the link is not stopped, v is the node's input, and the queue is empty after
-  pub empty-queue : (v : ℤ) → (full 1 0 ≡ false) × (queueAfter (queueOf []) (v ∷ []) true ≡ queueOf [])
+  -- "an empty queue of depth 1 whose node fires on arrival stays empty": v arrives and is the node's input; the rule and the record
+  pub empty-queue :
+      (v : ℤ) → let ch : Channel = record { source = v ∷ []; row = []; queue = [] } in
+      (seen 1 ch ≡ record { letter = 84; value = v }) × (input ch ≡ offered v) × (channelAfter 1 ch true false v .queue ≡ []) ×
+      (queueAfter (queueOf []) (v ∷ []) true ≡ queueOf [])
 
 pub starred : Starred
 unfolding signed padded
     wrap halve larger choose exact nextValue
     token linkOf letter reading held stationOf placeAfter stopped leaving rowAfter places rowCycle
-    waiting queueOf full pushed popped queueAfter
+    waiting queueOf full pushed popped queueAfter arriving input stopBelow stopAbove seen channelAfter
 starred =
     record {
       arithmetic = refl;
       full-station = λ a b v. refl;
       empty-station = λ v. refl;
       shows-i = refl;
-      empty-queue = λ v. (refl, refl);
+      empty-queue = λ v. (refl, refl, refl, refl);
     }

@@ -1,6 +1,6 @@
 -- `relay::Station::empty` meets its contract. Assumes nothing.
 use mathlib.Core.Path.{refl}
-use Rattle.laws.specs.Tokens.{padded}
+use Rattle.laws.specs.Lists.{padded}
 use Rattle.relay.specs.Station.{stationOf}
 use Rattle.relay.proofs.Station.empty.Statement.{statement}
 use Rattle.relay.proofs.Station.empty.Tie as tie

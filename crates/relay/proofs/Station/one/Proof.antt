@@ -1,6 +1,6 @@
 -- `relay::Station::one` meets its contract. Assumes nothing.
 use mir.Facts.{toZ-ofZ}
-use Rattle.laws.specs.Tokens.{padded}
+use Rattle.laws.specs.Lists.{padded}
 use Rattle.relay.specs.Station.{stationOf}
 use Rattle.relay.proofs.Station.one.Statement.{statement}
 use Rattle.relay.proofs.Station.one.Tie as tie

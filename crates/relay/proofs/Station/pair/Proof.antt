@@ -1,6 +1,6 @@
 -- `relay::Station::pair` meets its contract. Assumes nothing.
 use mir.Facts.{toZ-ofZ}
-use Rattle.laws.specs.Tokens.{padded}
+use Rattle.laws.specs.Lists.{padded}
 use Rattle.relay.specs.Station.{stationOf}
 use Rattle.relay.proofs.Station.pair.Statement.{statement}
 use Rattle.relay.proofs.Station.pair.Tie as tie

@@ -1,6 +1,6 @@
 -- `shell::Queue::empty` meets its contract. Assumes nothing.
 use mathlib.Core.Path.{refl}
-use Rattle.laws.specs.Tokens.{padded}
+use Rattle.laws.specs.Lists.{padded}
 use Rattle.shell.specs.Queue.{queueOf}
 use Rattle.shell.proofs.Queue.empty.Statement.{statement}
 use Rattle.shell.proofs.Queue.empty.Tie as tie

@@ -1,4 +1,4 @@
--- Lists as they are used for what a place holds, first in first out: is there an element, and what is there where a test holds.
+-- Lists that are filled at the end and emptied at the front, and arrays that hold such a list.
 use mathlib.Core.Bool.{Bool, true, false}
 use mathlib.Core.List.{List, [], _∷_, _++_}
 use mathlib.Core.Path.{_≡_}
@@ -7,14 +7,14 @@ use lib.ListN.{length, getD, drop, replicate}
 use Rattle.laws.specs.Choice.{_if_else_}
 
 module _ {A : Type 0} where
-  -- is there an element; are there two
-  abbrev pub some : List A → Bool
-  some [] = false
-  some (x ∷ xs) = true
+  -- the list holds an element; it holds two
+  abbrev pub holds : List A → Bool
+  holds [] = false
+  holds (x ∷ xs) = true
 
-  abbrev pub two : List A → Bool
-  two [] = false
-  two (x ∷ xs) = some xs
+  abbrev pub holdsTwo : List A → Bool
+  holdsTwo [] = false
+  holdsTwo (x ∷ xs) = holds xs
 
   -- x alone where the test holds, and nothing where it does not
   abbrev pub oneIf : Bool → A → List A

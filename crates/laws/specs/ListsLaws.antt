@@ -1,4 +1,4 @@
--- Laws of tests on lists and of padded lists. Assumes nothing.
+-- Laws of such lists, and of the arrays that hold them. Assumes nothing.
 use mathlib.Core.Bool.{Bool, true, false, false≢true}
 use mathlib.Core.List.{List, [], _∷_, _++_, append-assoc}
 use mathlib.Core.Logic.{⊎-elim}
@@ -10,11 +10,11 @@ use lib.ListN.{length, getD, take, drop, set, replicate, length-append, length-t
 use lib.ListN.{length-replicate, replicate-append-replicate}
 use lib.Seq.{take-all, take-length, drop-length, take-append-seam, set-append-seam, append-snoc, getD-append-add, getD-take, ext-getD}
 use Rattle.laws.specs.Cases.{lt-or-ge}
-use Rattle.laws.specs.Tokens.{some, oneIf, dropIf, padded, Stored}
+use Rattle.laws.specs.Lists.{holds, oneIf, dropIf, padded, Stored}
 
 module _ {A : Type 0} where
   -- what is dropped comes from the first of two lists, where that has an element
-  pub dropIf-append : (xs ys : List A) (b : Bool) → (b ≡ true → some xs ≡ true) → dropIf b (xs ++ ys) ≡ dropIf b xs ++ ys
+  pub dropIf-append : (xs ys : List A) (b : Bool) → (b ≡ true → holds xs ≡ true) → dropIf b (xs ++ ys) ≡ dropIf b xs ++ ys
   dropIf-append xs ys false h = refl
   dropIf-append [] ys true h = absurd (false≢true (h refl))
   dropIf-append (x ∷ xs) ys true h = refl
@@ -24,17 +24,17 @@ module _ {A : Type 0} where
   length-dropIf true [] = omega arith
   length-dropIf true (x ∷ xs) = omega arith
 
-  pub some-append : (xs ys : List A) → some xs ≡ true → some (xs ++ ys) ≡ true
-  some-append [] ys e = absurd (false≢true e)
-  some-append (x ∷ xs) ys e = refl
+  pub holds-append : (xs ys : List A) → holds xs ≡ true → holds (xs ++ ys) ≡ true
+  holds-append [] ys e = absurd (false≢true e)
+  holds-append (x ∷ xs) ys e = refl
 
   pub oneIf-few : (b : Bool) (x : A) → length (oneIf b x) ≤ 1
   oneIf-few true x = omega arith
   oneIf-few false x = omega arith
 
-  pub oneIf-some : (b : Bool) (x : A) → some (oneIf b x) ≡ b
-  oneIf-some true x = refl
-  oneIf-some false x = refl
+  pub oneIf-holds : (b : Bool) (x : A) → holds (oneIf b x) ≡ b
+  oneIf-holds true x = refl
+  oneIf-holds false x = refl
 
   -- past its end a list has no more
   pub take-min : (n : ℕ) (xs : List A) → take n xs ≡ take (min n (length xs)) xs
