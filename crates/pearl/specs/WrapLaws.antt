@@ -7,7 +7,7 @@ use native.Mathlib.Omega.{arith}
 use borrow.Author.Tests.{ltb-true, ltb-false}
 use lib.IntN.{ℤ, pos, negsuc, subℕ, _+ℤ_, _-ℤ_}
 use lib.Signed.{mag, ltZ}
-use mir.Syntax.{w32}
+use mir.Syntax.{w32, w64}
 use mir.Val.{SFits}
 use Rattle.laws.specs.Cases.{lt-or-ge}
 use Rattle.laws.specs.SignedLaws.{sub-below, sub-above, signed-low, signed-high}
@@ -53,14 +53,21 @@ mag-subℕ : (a b k : ℕ) → a < k → b ≤ k → mag (subℕ a b) < k
 mag-subℕ a b k h g =
     ⊎-elim (λ (l : a < b). rw (sub-below a b l) (omega arith)) (λ (l : b ≤ a). rw (sub-above a b l) (omega arith)) (lt-or-ge a b)
 
-pub mag-add : (a b : ℤ) → mag a < 2 ^ 31 → mag b < 2 ^ 31 → mag (a +ℤ b) < 2 ^ 32
+mag-add : (a b : ℤ) → mag a < 2 ^ 31 → mag b < 2 ^ 31 → mag (a +ℤ b) < 2 ^ 32
 mag-add (pos a) (pos b) f g = omega arith
 mag-add (pos a) (negsuc b) f g = mag-subℕ a (suc b) (2 ^ 32) (omega arith) (omega arith)
 mag-add (negsuc a) (pos b) f g = mag-subℕ b (suc a) (2 ^ 32) (omega arith) (omega arith)
 mag-add (negsuc a) (negsuc b) f g = omega arith
 
-pub mag-sub : (a b : ℤ) → mag a < 2 ^ 31 → mag b < 2 ^ 31 → mag (a -ℤ b) < 2 ^ 32
+mag-sub : (a b : ℤ) → mag a < 2 ^ 31 → mag b < 2 ^ 31 → mag (a -ℤ b) < 2 ^ 32
 mag-sub a (pos zero) f g = mag-add a (pos zero) f g
 mag-sub a (pos (suc b)) f g = mag-add a (negsuc b) f (omega arith)
 mag-sub (pos a) (negsuc b) f g = omega arith
 mag-sub (negsuc a) (negsuc b) f g = mag-subℕ (suc b) (suc a) (2 ^ 32) (omega arith) (omega arith)
+
+-- so in 64 bits they are exact
+pub sum-fits : (a b : ℤ) → SFits w32 a → SFits w32 b → SFits w64 (a +ℤ b) × (mag (a +ℤ b) < 2 ^ 32)
+sum-fits a b f g = let h = mag-add a b (f .sfits) (g .sfits) in (record { sfits = omega arith }, h)
+
+pub difference-fits : (a b : ℤ) → SFits w32 a → SFits w32 b → SFits w64 (a -ℤ b) × (mag (a -ℤ b) < 2 ^ 32)
+difference-fits a b f g = let h = mag-sub a b (f .sfits) (g .sfits) in (record { sfits = omega arith }, h)

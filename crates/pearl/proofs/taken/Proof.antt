@@ -1,21 +1,9 @@
 -- `pearl::taken` meets its contract: in 64 bits the difference is exact, and `wrapped` brings it back. Assumes nothing.
-use Prim.Native.Nat.{_<_, _^_}
-use native.Mathlib.Omega.{arith}
-use lib.IntN.{_-ℤ_}
-use lib.Signed.{mag}
-use mir.Syntax.{w64}
-use mir.Val.{SFits}
 use mir.Facts.{toZ-ofZ}
 use Rattle.laws.specs.SignedLaws.{widen, ints}
-use Rattle.pearl.specs.WrapLaws.{mag-sub}
+use Rattle.pearl.specs.WrapLaws.{difference-fits}
 use Rattle.pearl.proofs.taken.Statement.{statement}
 use Rattle.pearl.proofs.taken.Tie as tie
-
-small : (c : tie.Start) → mag (c .args .a -ℤ c .args .b) < 2 ^ 32
-small c = mag-sub (c .args .a) (c .args .b) (c .fits .a .sfits) (c .fits .b .sfits)
-
-wide : (c : tie.Start) → SFits w64 (c .args .a -ℤ c .args .b)
-wide c = record { sfits = omega (arith, small c) }
 
 cast-wrapped : tie.Need-cast-wrapped
 cast-wrapped c = search ints
@@ -24,13 +12,22 @@ cast-wrapped-2 : tie.Need-cast-wrapped-2
 cast-wrapped-2 c = search ints
 
 sub-wrapped : tie.Need-sub-wrapped
-sub-wrapped c = simp (toZ-ofZ, c .fits .a, c .fits .b, widen (c .fits .a), widen (c .fits .b)) (wide c)
+sub-wrapped c =
+    let f = c .fits in
+    simp (toZ-ofZ, f .a, f .b, widen (f .a), widen (f .b)) (difference-fits (c .args .a) (c .args .b) (f .a) (f .b) .0)
 
 wrapped-requires : tie.Need-wrapped-requires
-wrapped-requires c κs = simp (toZ-ofZ, c .fits .a, c .fits .b, widen (c .fits .a), widen (c .fits .b), wide c) (small c)
+wrapped-requires c κs =
+    let f = c .fits in
+    let e = difference-fits (c .args .a) (c .args .b) (f .a) (f .b) in
+    simp (toZ-ofZ, f .a, f .b, widen (f .a), widen (f .b), e .0) (e .1)
 
 returns : tie.Need-returns
-returns c = let s = c .before in simp (toZ-ofZ, s .fits .a, s .fits .b, widen (s .fits .a), widen (s .fits .b), wide s) at (c .wrapped .ensures)
+returns c =
+    let s = c .before in
+    let f = s .fits in
+    let e = difference-fits (s .args .a) (s .args .b) (f .a) (f .b) in
+    simp (toZ-ofZ, f .a, f .b, widen (f .a), widen (f .b), e .0) at (c .wrapped .ensures)
 
 pub taken-spec : {M : Type 1} → statement M
 taken-spec = tie.close (tie.spec cast-wrapped cast-wrapped-2 sub-wrapped wrapped-requires returns)
