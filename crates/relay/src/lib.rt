@@ -146,6 +146,7 @@ impl Station {
         let count = self.count;
         let oldest = self.tokens[0];
         let newer = self.tokens[1];
+        let offered = link.value;
         if Station::DEPTH <= count {
             if stop {
                 return Station::pair(oldest, newer);
@@ -154,12 +155,12 @@ impl Station {
         }
         if (count == 1) & stop {
             if link.valid {
-                return Station::pair(oldest, link.value);
+                return Station::pair(oldest, offered);
             }
             return Station::one(oldest);
         }
         if link.valid {
-            return Station::one(link.value);
+            return Station::one(offered);
         }
         Station::empty()
     }

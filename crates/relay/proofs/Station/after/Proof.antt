@@ -1,5 +1,6 @@
 -- `relay::Station::after` meets its contract: in each of its six cases the tokens are the definition's. Assumes nothing.
 use mathlib.Core.Bool.{true}
+use mathlib.Core.List.{[], _∷_}
 use mathlib.Core.Path.{_≡_}
 use native.Mathlib.Omega.{arith}
 use borrow.Author.Tests.{eqb-true}
@@ -21,24 +22,37 @@ use Rattle.relay.proofs.Station.after.Tie as tie
 long : (c : tie.Start) → length (c .args .t1 .tokens) ≡ 2
 long c = search needs
 
-oldest : (c : tie.After-oldest) → SFits w32 (getD (c .before .args .t1 .tokens) 0 (pos 0))
-oldest c = told (getD (c .before .args .t1 .tokens) 0 (pos 0)) (c .oldest .given)
+-- what has been read fits
+oldest : (r : tie.After-struct-told) → SFits w32 (getD (r .before .before .before .args .t1 .tokens) 0 (pos 0))
+oldest r = told (getD (r .before .before .before .args .t1 .tokens) 0 (pos 0)) (r .before .before .oldest .given)
 
-newer : (c : tie.After-newer) → SFits w32 (getD (c .before .before .args .t1 .tokens) 1 (pos 0))
-newer c = told (getD (c .before .before .args .t1 .tokens) 1 (pos 0)) (c .newer .given)
+newer : (r : tie.After-struct-told) → SFits w32 (getD (r .before .before .before .args .t1 .tokens) 1 (pos 0))
+newer r = told (getD (r .before .before .before .args .t1 .tokens) 1 (pos 0)) (r .before .newer .given)
 
--- it holds one token and keeps it
-kept : (c : tie.Then3) → let a = c .before .before .before .before .args in (a .t1 .count ≡ 1) × (a .stop ≡ true)
+offered : (r : tie.After-struct-told) → SFits w32 (r .before .before .before .args .link .value)
+offered r = search needs
+
+-- a full station holds both
+full : (c : tie.Then1) → let t = c .before .before .before .before .args .t1 in held t ≡ getD (t .tokens) 0 (pos 0) ∷ getD (t .tokens) 1 (pos 0) ∷ []
+full c = let s = c .before .before .before .before in held-two (s .args .t1) (long s) (c .if1 .taken)
+
+-- one that keeps its token holds that
+kept :
+    (c : tie.Then3) → let a = c .before .before .before .before .before .args in
+    (held (a .t1) ≡ getD (a .t1 .tokens) 0 (pos 0) ∷ []) × (a .stop ≡ true)
 kept c =
-    let a = c .before .before .before .before .args in
+    let s = c .before .before .before .before .before in
+    let a = s .args in
     let one = eqb (a .t1 .count) 1 in
-    (eqb-true (a .t1 .count) 1 (and-left one (a .stop) (c .if3 .taken)), and-right one (a .stop) (c .if3 .taken))
+    let e = eqb-true (a .t1 .count) 1 (and-left one (a .stop) (c .if3 .taken)) in
+    (held-one (a .t1) (long s) e, and-right one (a .stop) (c .if3 .taken))
 
--- it is not full, and keeps none
+-- and another is left with what passes
 clear :
-    (c : tie.Else3) → let a = c .before .before .before .before .args in placeAfter (token (a .link)) (held (a .t1)) (a .stop) ≡ token (a .link)
+    (c : tie.Else3) → let a = c .before .before .before .before .before .args in
+    placeAfter (token (a .link)) (held (a .t1)) (a .stop) ≡ token (a .link)
 clear c =
-    let s = c .before .before .before .before in
+    let s = c .before .before .before .before .before in
     after-clear (s .args .t1) (long s) (token (s .args .link)) (s .args .stop) (omega arith) (c .if3 .left)
 
 element-copy-out-oldest : tie.Need-element-copy-out-oldest
@@ -53,25 +67,15 @@ pair-requires c κs = search needs
 returns : tie.Need-returns
 unfolding placeAfter
 returns c =
-    let n = c .before .before .before in
-    let s = n .before .before in
-    rw (
-      c .pair .ensures,
-      toZ-ofZ (oldest (n .before)),
-      toZ-ofZ (newer n),
-      held-two (s .args .t1) (long s) (c .before .before .if1 .taken),
-      c .before .if2 .taken,
-    )
+    let f = c .before .before in
+    rw (c .pair .ensures, toZ-ofZ (oldest (f .before)), toZ-ofZ (newer (f .before)), full f, c .before .if2 .taken)
 
 one-requires : tie.Need-one-requires
 one-requires c κs = search needs
 
 returns-2 : tie.Need-returns-2
 unfolding placeAfter
-returns-2 c =
-    let n = c .before .before .before in
-    let s = n .before .before in
-    rw (c .one .ensures, toZ-ofZ (newer n), held-two (s .args .t1) (long s) (c .before .before .if1 .taken), c .before .if2 .left)
+returns-2 c = let f = c .before .before in rw (c .one .ensures, toZ-ofZ (newer (f .before)), full f, c .before .if2 .left)
 
 pair-requires-2 : tie.Need-pair-requires-2
 pair-requires-2 c κs = search needs
@@ -79,18 +83,9 @@ pair-requires-2 c κs = search needs
 returns-3 : tie.Need-returns-3
 unfolding placeAfter token
 returns-3 c =
-    let k = c .before .before .before in
-    let n = k .before .before in
-    let s = n .before .before in
-    let g : SFits w32 (s .args .link .value) = search needs in
-    rw (
-      c .pair2 .ensures,
-      toZ-ofZ (oldest (n .before)),
-      toZ-ofZ g,
-      held-one (s .args .t1) (long s) (kept k .0),
-      kept k .1,
-      c .before .before .if4 .taken,
-    )
+    let k = c .before .before in
+    let r = k .before .before in
+    rw (c .pair2 .ensures, toZ-ofZ (oldest r), toZ-ofZ (offered r), kept k .0, kept k .1, c .before .if4 .taken)
 
 one-requires-2 : tie.Need-one-requires-2
 one-requires-2 c κs = search needs
@@ -99,9 +94,7 @@ returns-4 : tie.Need-returns-4
 unfolding placeAfter token
 returns-4 c =
     let k = c .before .before in
-    let n = k .before .before in
-    let s = n .before .before in
-    rw (c .one2 .ensures, toZ-ofZ (oldest (n .before)), held-one (s .args .t1) (long s) (kept k .0), kept k .1, c .before .if4 .left)
+    rw (c .one2 .ensures, toZ-ofZ (oldest (k .before .before)), kept k .0, kept k .1, c .before .if4 .left)
 
 one-requires-3 : tie.Need-one-requires-3
 one-requires-3 c κs = search needs
@@ -109,9 +102,8 @@ one-requires-3 c κs = search needs
 returns-5 : tie.Need-returns-5
 unfolding token
 returns-5 c =
-    let e = c .before .before .before in
-    let g : SFits w32 (e .before .before .before .before .args .link .value) = search needs in
-    rw (c .one3 .ensures, toZ-ofZ g, clear e, c .before .before .if5 .taken)
+    let e = c .before .before in
+    rw (c .one3 .ensures, toZ-ofZ (offered (e .before .before)), clear e, c .before .if5 .taken)
 
 empty-requires : tie.Need-empty-requires
 empty-requires c κs = search needs
