@@ -6,8 +6,7 @@ use mathlib.Core.Path.{_≡_, refl, ap, sym, _∙_}
 use Prim.Native.Nat.{ℕ, zero, suc, _+_, _-_, _<_, _≤_, min}
 use native.Mathlib.Numerals.{add-one}
 use native.Mathlib.Omega.{arith}
-use lib.ListN.{length, getD, take, drop, set, replicate, length-append, length-take, drop-of-length-le, List·getD-append}
-use lib.ListN.{length-replicate, replicate-append-replicate}
+use lib.ListN.{length, getD, take, drop, set, replicate, length-append, length-take, drop-of-length-le, List·getD-append, length-replicate, replicate-append-replicate}
 use lib.Seq.{take-all, take-length, drop-length, take-append-seam, set-append-seam, append-snoc, getD-append-add, getD-take, ext-getD}
 use Rattle.laws.specs.Cases.{lt-or-ge}
 use Rattle.laws.specs.Lists.{holds, oneIf, dropIf, padded, Stored}
@@ -24,17 +23,9 @@ module _ {A : Type 0} where
   length-dropIf true [] = omega arith
   length-dropIf true (x ∷ xs) = omega arith
 
-  pub holds-append : (xs ys : List A) → holds xs ≡ true → holds (xs ++ ys) ≡ true
-  holds-append [] ys e = absurd (false≢true e)
-  holds-append (x ∷ xs) ys e = refl
-
   pub oneIf-few : (b : Bool) (x : A) → length (oneIf b x) ≤ 1
   oneIf-few true x = omega arith
   oneIf-few false x = omega arith
-
-  pub oneIf-holds : (b : Bool) (x : A) → holds (oneIf b x) ≡ b
-  oneIf-holds true x = refl
-  oneIf-holds false x = refl
 
   -- past its end a list has no more
   pub take-min : (n : ℕ) (xs : List A) → take n xs ≡ take (min n (length xs)) xs

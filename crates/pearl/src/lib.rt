@@ -38,6 +38,7 @@ fn wrapped(exact: i64) -> Next
     }
 }
 
+// a + b, and a - b, wrapped: exact in 64 bits, then brought back.
 fn added(a: i32, b: i32) -> Next
     ensures { λ r. ⌜ r ≡ fired (a +ℤ b) ⌝ }
 {

@@ -8,18 +8,14 @@ use native.Mathlib.Omega.{arith}
 use lib.IntN.{ℤ, pos}
 use lib.ListN.{length, getD, take}
 use Rattle.laws.specs.Lists.{holds, oneIf}
-use Rattle.laws.specs.ListsLaws.{oneIf-few, oneIf-holds}
+use Rattle.laws.specs.ListsLaws.{oneIf-few}
 use Rattle.relay.specs.declared.Link.{Link}
 use Rattle.relay.specs.Link.{token, linkOf, passing, staying}
 
--- a link shows one token at most, and shows one if it is valid
+-- a link shows one token at most
 pub token-few : (link : Link) → length (token link) ≤ 1
 unfolding token
 token-few link = oneIf-few (link .valid) (link .value)
-
-pub token-valid : (link : Link) → holds (token link) ≡ link .valid
-unfolding token
-token-valid link = oneIf-holds (link .valid) (link .value)
 
 -- a valid link is all that there is to tell of it
 pub link-valid : (link : Link) → link .valid ≡ true → link ≡ linkOf (token link)
@@ -63,10 +59,6 @@ take-few (x ∷ place) = omega arith
 pub passing-staying : (link : List ℤ) (stop : Bool) → passing link stop ++ staying link stop ≡ link
 passing-staying link true = refl
 passing-staying link false = append-nil link
-
-pub passing-few : (link : List ℤ) (stop : Bool) → length (passing link stop) ≤ length link
-passing-few link true = omega arith
-passing-few link false = omega arith
 
 -- a token passes exactly when the link is valid and not stopped
 passing-flag : (valid stop : Bool) (x : ℤ) → holds (passing (oneIf valid x) stop) ≡ valid && not stop

@@ -43,7 +43,7 @@ link-above link row (suc j) h k =
     rw (e, ← (place-at row 8 j k)) (sym (linkOf-take (getD (places row 8) j [])))
 
 -- what a link shows is no more than one token
-pub token-link : (link : Link) (row : List (List ℤ)) (j : ℕ) → token (linkOf (linkAt (token link) row j)) ≡ linkAt (token link) row j
+token-link : (link : Link) (row : List (List ℤ)) (j : ℕ) → token (linkOf (linkAt (token link) row j)) ≡ linkAt (token link) row j
 token-link link row j = token-of (linkAt (token link) row j) ∙ take-all 1 (linkAt (token link) row j) (link-few (token link) row j (token-few link))
 
 pub length-places : (row : Row) (n : ℕ) → length (row .stations) ≡ 8 → n ≤ 8 → length (places row n) ≡ n

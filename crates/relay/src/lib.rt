@@ -87,6 +87,7 @@ impl Station {
     // How many tokens a station has places for.
     pub const DEPTH: u8 = 2;
 
+    // A station that holds no token; below it, those that hold one and two.
     pub fn empty() -> Self
         ensures { λ r. ⌜ r ≡ stationOf [] ⌝ }
     {

@@ -17,6 +17,7 @@ impl Queue {
     // How many tokens the deepest queue has places for.
     pub const DEPTH: u8 = 8;
 
+    // A queue that holds no token.
     pub fn empty() -> Self
         ensures { λ r. ⌜ r ≡ queueOf [] ⌝ }
     {
@@ -54,6 +55,7 @@ impl Queue {
         }
     }
 
+    // It with the link's token behind the others, if that passes and there is a place.
     fn pushed(self, link: Link, stop: bool) -> Self
         ensures { λ r. ⌜ r ≡ pushed self (passing (token link) stop) ⌝ }
     {
@@ -67,6 +69,7 @@ impl Queue {
         queue
     }
 
+    // It without its oldest token.
     fn popped(self) -> Self
         requires { ⌜ 0 < self .count ⌝ }
         ensures { λ r. ⌜ r ≡ popped self ⌝ }
