@@ -2,6 +2,7 @@
 -- step of it.
 use mathlib.Core.Bool.{Bool, true, false, _&&_, _||_}
 use Prim.Native.Nat.{ℕ, zero, suc, _+_}
+use Rattle.laws.specs.Choice.{_if_else_}
 
 -- f holds at every number below n
 unfoldable pub allBelow : (ℕ → Bool) → ℕ → Bool
@@ -17,3 +18,8 @@ anyBelow f (suc n) = anyBelow f n || f n
 unfoldable pub sumBelow : (ℕ → ℕ) → ℕ → ℕ
 sumBelow f zero = 0
 sumBelow f (suc n) = sumBelow f n + f n
+
+-- f at the last number below n where the test holds, and d if it holds at none
+unfoldable pub pickBelow : {A : Type 0} → (ℕ → Bool) → (ℕ → A) → A → ℕ → A
+pickBelow test f d zero = d
+pickBelow test f d (suc n) = f n if test n else pickBelow test f d n

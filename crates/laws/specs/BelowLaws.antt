@@ -1,11 +1,12 @@
 -- Laws of `allBelow`, `anyBelow` and `sumBelow`. Assumes nothing.
 use mathlib.Core.Path.{_≡_, refl, sym, _∙_}
 use mathlib.Core.Logic.{_↔_, ⊎-elim}
-use mathlib.Core.Bool.{Bool, true, false, not, or-true, Bool·not-not, false≢true}
+use mathlib.Core.Bool.{Bool, true, false, not, or-true, or-false, Bool·not-not, false≢true}
 use Prim.Native.Nat.{ℕ, zero, suc, _<_}
 use native.Mathlib.Nat.{not-suc-le-zero}
 use native.Mathlib.Omega.{arith}
-use Rattle.laws.specs.Below.{allBelow, anyBelow}
+use Rattle.laws.specs.Choice.{_if_else_}
+use Rattle.laws.specs.Below.{allBelow, anyBelow, pickBelow}
 use borrow.Author.Tests.{not-true, not-false}
 use Rattle.laws.specs.Cases.{true-or-false, or-left, or-right, not-or, below-suc}
 
@@ -58,3 +59,62 @@ any-same f g (suc n) h = rw (any-same f g n (λ k l. h k (omega arith)), h n (om
 -- a test that fails at each number where P holds, and only there, fails at all below n exactly if P holds at all of them
 pub none-iff : {P : ℕ → Type 0} (f : ℕ → Bool) (n : ℕ) → ((k : ℕ) → (f k ≡ false) ↔ P k) → (anyBelow f n ≡ false) ↔ ((k : ℕ) → k < n → P k)
 none-iff f n iff = (λ e k h. iff k .0 (any-none f k n e h), λ h. none-any f n (λ k l. iff k .1 (h k l)))
+
+-- ---- what is picked
+-- a pick is d, or f at a number below n: what holds of these holds of it
+pub pick-one : {A : Type 0} (P : A → Type 0) (test : ℕ → Bool) (f : ℕ → A) (d : A) (n : ℕ) → P d → ((k : ℕ) → k < n → P (f k)) → P (pickBelow test f d n)
+unfolding pickBelow
+pick-one P test f d zero z h = z
+pick-one {A = A} P test f d (suc n) z h =
+    either (test n) (f n) (pickBelow test f d n) (h n (omega arith)) (pick-one P test f d n z (λ k l. h k (omega arith)))
+  where
+    either : (b : Bool) (x y : A) → P x → P y → P (x if b else y)
+    either true x y p q = p
+    either false x y p q = q
+
+-- a function of a pick is a pick of the function
+pub pick-map :
+    {A B : Type 0} (g : A → B) (test : ℕ → Bool) (f : ℕ → A) (d : A) (n : ℕ) → g (pickBelow test f d n) ≡ pickBelow test (λ k. g (f k)) (g d) n
+unfolding pickBelow
+pick-map g test f d zero = refl
+pick-map g test f d (suc n) =
+    ⊎-elim (λ (e : test n ≡ true). rw e) (λ (e : test n ≡ false). rw e (pick-map g test f d n)) (true-or-false (test n))
+
+-- picks by tests that agree, from functions that agree where they hold
+pub pick-same :
+    {A : Type 0} (s t : ℕ → Bool) (f g : ℕ → A) (d : A) (n : ℕ)
+    → ((k : ℕ) → k < n → s k ≡ t k) → ((k : ℕ) → k < n → t k ≡ true → f k ≡ g k) → pickBelow s f d n ≡ pickBelow t g d n
+unfolding pickBelow
+pick-same s t f g d zero h l = refl
+pick-same s t f g d (suc n) h l =
+    rw (h n (omega arith))
+    (⊎-elim
+    (λ (e : t n ≡ true). rw e (l n (omega arith) e))
+    (λ (e : t n ≡ false). rw e (pick-same s t f g d n (λ k b. h k (omega arith)) (λ k b. l k (omega arith))))
+    (true-or-false (t n)))
+
+-- where the test holds at one number alone, f there is picked
+pub pick-only :
+    {A : Type 0} (test : ℕ → Bool) (f : ℕ → A) (d : A) (k n : ℕ)
+    → k < n → test k ≡ true → ((j : ℕ) → j < n → test j ≡ true → j ≡ k) → pickBelow test f d n ≡ f k
+unfolding pickBelow
+pick-only test f d k zero h e only = absurd (not-suc-le-zero h)
+pick-only test f d k (suc n) h e only =
+    ⊎-elim
+    (λ (q : k ≡ n). rw (← q, e))
+    (λ (l : k < n).
+    ⊎-elim
+    (λ (t : test n ≡ true). let q = only n (omega arith) t in rw (t, q))
+    (λ (t : test n ≡ false). rw t (pick-only test f d k n l e (λ j b. only j (omega arith))))
+    (true-or-false (test n)))
+    (below-suc h)
+
+-- whether there is anything to pick
+pub pick-any : (test : ℕ → Bool) (n : ℕ) → pickBelow test (λ k. true) false n ≡ anyBelow test n
+unfolding pickBelow anyBelow
+pick-any test zero = refl
+pick-any test (suc n) =
+    ⊎-elim
+    (λ (e : test n ≡ true). rw (e, or-true))
+    (λ (e : test n ≡ false). rw (e, or-false) (pick-any test n))
+    (true-or-false (test n))

@@ -6,7 +6,7 @@ use mathlib.Core.Path.{_≡_, refl, ap, sym, _∙_}
 use Prim.Native.Nat.{ℕ, zero, suc, _+_, _-_, _<_, _≤_, min}
 use native.Mathlib.Numerals.{add-one}
 use native.Mathlib.Omega.{arith}
-use lib.ListN.{length, getD, take, drop, set, replicate, length-append, length-take, drop-of-length-le, List·getD-append, length-replicate, replicate-append-replicate}
+use lib.ListN.{length, getD, take, drop, set, replicate, length-append, length-take, drop-of-length-le, List·getD-append, List·getD-eq-default, length-replicate, replicate-append-replicate}
 use lib.Seq.{take-all, take-length, drop-length, take-append-seam, set-append-seam, append-snoc, getD-append-add, getD-take, ext-getD}
 use Rattle.laws.specs.Cases.{lt-or-ge}
 use Rattle.laws.specs.Lists.{holds, oneIf, dropIf, padded, Stored}
@@ -61,6 +61,15 @@ module _ {A : Type 0} where
   padded-rest n d xs k h =
       let e : k ≡ length xs + (k - length xs) = omega arith in
       rw (e, getD-append-add) (replicate-rest (n - length xs) (k - length xs) d)
+
+  -- nothing that is read changes, where what is past the end reads d
+  pub getD-padded : (n : ℕ) (d : A) (xs : List A) (k : ℕ) → getD (padded n d xs) k d ≡ getD xs k d
+  unfolding padded
+  getD-padded n d xs k =
+      ⊎-elim
+      (λ (h : k < length xs). List·getD-append xs (replicate (n - length xs) d) d k h)
+      (λ (h : length xs ≤ k). padded-rest n d xs k h ∙ sym (List·getD-eq-default xs d h))
+      (lt-or-ge k (length xs))
 
   -- one more element goes into the first place behind the others
   pub padded-set : (n : ℕ) (d : A) (xs : List A) (x : A) → length xs < n → set (padded n d xs) (length xs) x ≡ padded n d (xs ++ (x ∷ []))

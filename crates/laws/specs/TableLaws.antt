@@ -1,13 +1,14 @@
 -- Laws of tables. Assumes nothing.
-use mathlib.Core.List.{List, [], _∷_, map, append-assoc}
+use mathlib.Core.List.{List, [], _∷_, _++_, map, append-assoc}
 use mathlib.Core.Logic.{⊎-elim}
-use mathlib.Core.Path.{_≡_, refl, sym, _∙_}
-use Prim.Native.Nat.{ℕ, zero, suc, _<_, _≤_}
+use mathlib.Core.Path.{_≡_, refl, ap, sym, _∙_}
+use Prim.Native.Nat.{ℕ, zero, suc, _+_, _-_, _<_, _≤_}
 use native.Mathlib.Nat.{not-suc-le-zero, le-of-suc-le-suc}
 use native.Mathlib.Omega.{arith}
-use lib.ListN.{length, getD, set, drop, length-append, length-drop, length-map, List·getD-append, List·getD-map}
-use lib.Seq.{drop-cons, getD-at, set-at, ext-getD}
+use lib.ListN.{length, getD, set, drop, replicate, length-append, length-drop, length-map, List·getD-append, List·getD-map}
+use lib.Seq.{drop-cons, drop-append-add, getD-at, set-at, ext-getD}
 use Rattle.laws.specs.Cases.{below-suc}
+use Rattle.laws.specs.Lists.{padded}
 use Rattle.laws.specs.Table.{table, tableOver}
 
 module _ {A : Type 0} where
@@ -48,6 +49,27 @@ module _ {A : Type 0} where
   pub length-over : (f : ℕ → A) (n : ℕ) (l : List A) → n ≤ length l → length (tableOver f n l) ≡ length l
   unfolding tableOver
   length-over f n l h = rw (length-append, length-table, length-drop) (omega arith)
+
+  -- over the front of the same list, tables that agree leave the same
+  pub over-same : (f g : ℕ → A) (n : ℕ) (l : List A) → ((i : ℕ) → i < n → f i ≡ g i) → tableOver f n l ≡ tableOver g n l
+  unfolding tableOver
+  over-same f g n l h = rw (table-same f g n h)
+
+  drop-replicate : (k m : ℕ) (d : A) → drop k (replicate m d) ≡ replicate (m - k) d
+  drop-replicate zero m d = let e : m - 0 ≡ m = omega arith in rw e
+  drop-replicate (suc k) zero d = let e : 0 - suc k ≡ 0 = omega arith in rw e
+  drop-replicate (suc k) (suc m) d = let e : suc m - suc k ≡ m - k = omega arith in rw e (drop-replicate k m d)
+
+  -- a table over a padded list that is no longer is the table, padded
+  pub over-padded : (f : ℕ → A) (n m : ℕ) (d : A) (xs : List A) → length xs ≤ n → tableOver f n (padded m d xs) ≡ padded m d (table f n)
+  unfolding tableOver padded
+  over-padded f n m d xs h =
+      let e : n ≡ length xs + (n - length xs) = omega arith in
+      let r : m - length xs - (n - length xs) ≡ m - n = omega arith in
+      let rest : drop n (xs ++ replicate (m - length xs) d) ≡ replicate (m - n) d =
+          ap (λ k. drop k (xs ++ replicate (m - length xs) d)) e ∙ drop-append-add xs (replicate (m - length xs) d) (n - length xs)
+          ∙ drop-replicate (n - length xs) (m - length xs) d ∙ ap (λ k. replicate k d) r in
+      rw (rest, length-table)
 
 -- a list is the table of its own elements
 pub table-own : {A : Type 0} (l : List A) (d : A) → l ≡ table (λ i. getD l i d) (length l)

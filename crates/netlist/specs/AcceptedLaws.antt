@@ -8,9 +8,12 @@ use borrow.Author.Tests.{ltb-false, le-ltb}
 use lib.ListN.{length}
 use Rattle.laws.specs.Below.{anyBelow, sumBelow}
 use Rattle.laws.specs.BelowLaws.{any-where, any-hit, none-iff}
-use Rattle.netlist.specs.Image.{nodes, channels, stations}
-use Rattle.netlist.specs.Judge.{judge, feeds, badKind, badWire, badPort, badStations, badDepth}
-use Rattle.netlist.specs.JudgeLaws.{sizes-ok, length-ok, kind-ok, wire-ok, port-ok, feeds-ok, stations-ok, depth-ok}
+use Rattle.netlist.specs.Image.{nodes, channels, kind, to, feeds, stations}
+use Rattle.netlist.specs.ImageLaws.{inputs-few}
+use Rattle.netlist.specs.Ports.{Wired}
+use Rattle.netlist.specs.Judge.{judge, badKind, badWire, badPort, badStations, badDepth}
+use Rattle.netlist.specs.PortsLaws.{feeds-ok}
+use Rattle.netlist.specs.JudgeLaws.{sizes-ok, length-ok, kind-ok, wire-ok, port-ok, stations-ok, depth-ok}
 use Rattle.netlist.specs.Accepted.{Feeder, Accepted}
 use Rattle.netlist.specs.Clear.{clear, unclear}
 use Rattle.netlist.specs.FedLaws.{once-iff, fed-iff}
@@ -64,4 +67,12 @@ accepts img a =
       no-9 = none-iff (badStations img) (channels img) (stations-ok img) .1 (a .rows);
       no-10 = none-iff (badDepth img) (channels img) (depth-ok img) .1 (a .queues);
       no-11 = le-ltb 256 (sumBelow (stations img) (channels img)) (a .few-stations);
+    }
+
+-- every channel of it leads to a port that has a place
+pub accepted-wired : (img : List ℕ) → Accepted img → Wired img (channels img)
+accepted-wired img a =
+    record {
+      node = λ c h. omega (arith, a .wires c h, a .few-nodes);
+      input = λ c h. omega (arith, a .ports c h, inputs-few (kind img (to img c)));
     }

@@ -6,8 +6,8 @@ use lib.IntN.{pos, negsuc}
 use lib.ListN.{set, take, replicate}
 use Rattle.laws.specs.Below.{anyBelow, sumBelow}
 use Rattle.laws.specs.Signed.{signed}
-use Rattle.netlist.specs.Image.{nodes, channels, kind, parameter, wire, from, to, port, depths, stations, depth, inputs}
-use Rattle.netlist.specs.Judge.{judge, feeds, badKind, badWire, badPort, fedTwice, notFed, badStations, badDepth}
+use Rattle.netlist.specs.Image.{feeds, nodes, channels, kind, parameter, wire, from, to, port, depths, stations, depth, inputs}
+use Rattle.netlist.specs.Judge.{judge, badKind, badWire, badPort, fedTwice, notFed, badStations, badDepth}
 
 -- kinds 1 1 6 2 2; parameters 10 100 0 0 0; wires 0-2-0, 1-2-1, 2-3-0, 2-4-0; depths 0/2, 0/2, 0/1, 0/1
 abbrev pub figure4 : List ℕ

@@ -9,9 +9,9 @@ use borrow.Author.Tests.{not-false}
 use Rattle.laws.specs.Below.{anyBelow}
 use Rattle.laws.specs.BelowLaws.{none-iff}
 use Rattle.laws.specs.Cases.{lt-or-ge, true-or-false}
-use Rattle.netlist.specs.Image.{nodes, channels, kind, to, port, inputs}
-use Rattle.netlist.specs.Judge.{feeds, fedTwice, notFed}
-use Rattle.netlist.specs.JudgeLaws.{feeds-ok}
+use Rattle.netlist.specs.Image.{feeds, nodes, channels, kind, to, port, inputs}
+use Rattle.netlist.specs.Judge.{fedTwice, notFed}
+use Rattle.netlist.specs.PortsLaws.{feeds-ok}
 
 -- two channels that feed one port are the same channel
 abbrev pub Once : List ℕ → Type 0

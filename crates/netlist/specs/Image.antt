@@ -1,6 +1,8 @@
 -- The image: N and C, two parallel arrays for nodes, two for channels. An image is the list of its bytes; past its end a field reads 0.
+use mathlib.Core.Bool.{Bool, _&&_}
 use mathlib.Core.List.{List, [], _∷_}
 use Prim.Native.Nat.{ℕ, _+_, _*_, _^_}
+use lib.Dec.{eqb}
 use lib.IntN.{ℤ}
 use lib.ListN.{getD}
 use Rattle.laws.specs.Signed.{signed}
@@ -35,6 +37,10 @@ to img c = getD img (wire img c + 1) 0
 
 unfoldable pub port : List ℕ → ℕ → ℕ
 port img c = getD img (wire img c + 2) 0
+
+-- channel c feeds port p of node n
+unfoldable pub feeds : List ℕ → ℕ → ℕ → ℕ → Bool
+feeds img n p c = eqb (to img c) n && eqb (port img c) p
 
 -- "and C depths of 2 bytes (stations 0 to 8, queue 1 to 8)."
 unfoldable pub depths : List ℕ → ℕ → ℕ

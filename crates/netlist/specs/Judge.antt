@@ -1,5 +1,5 @@
 -- The judge: "Order: 1 to 11 rising, each over the whole image."
-use mathlib.Core.Bool.{Bool, not, _&&_, _||_}
+use mathlib.Core.Bool.{Bool, not, _||_}
 use mathlib.Core.List.{List}
 use Prim.Native.Nat.{ℕ, _+_, _*_}
 use lib.Dec.{eqb, leb, ltb}
@@ -7,11 +7,7 @@ use lib.ListN.{length}
 use Rattle.laws.specs.Below.{anyBelow, sumBelow}
 use Rattle.laws.specs.Choice.{_if_else_}
 use Rattle.laws.specs.Range.{outside}
-use Rattle.netlist.specs.Image.{nodes, channels, kind, from, to, port, stations, depth, inputs}
-
--- channel c feeds port p of node n
-unfoldable pub feeds : List ℕ → ℕ → ℕ → ℕ → Bool
-feeds img n p c = eqb (to img c) n && eqb (port img c) p
+use Rattle.netlist.specs.Image.{nodes, channels, kind, from, to, port, feeds, stations, depth, inputs}
 
 -- 4, of node n: "kind not 1 to 9"
 unfoldable pub badKind : List ℕ → ℕ → Bool

@@ -1,5 +1,5 @@
 -- What it says that one of the judge's tests fails at a node or a channel, both ways. Assumes nothing.
-use mathlib.Core.Bool.{true, false, not, _||_}
+use mathlib.Core.Bool.{false, not, _||_}
 use mathlib.Core.List.{List}
 use mathlib.Core.Logic.{_↔_}
 use mathlib.Core.Path.{_≡_, ap}
@@ -7,11 +7,11 @@ use Prim.Native.Nat.{ℕ, _<_, _≤_, _+_, _*_}
 use borrow.Author.Tests.{ltb-false, leb-false, le-ltb, lt-leb, eqb-true, eq-eqb, not-false}
 use lib.Dec.{eqb, leb, ltb}
 use lib.ListN.{length}
-use Rattle.laws.specs.Cases.{and-left, and-right, or-left, or-right}
+use Rattle.laws.specs.Cases.{or-left, or-right}
 use Rattle.laws.specs.Range.{outside}
 use Rattle.laws.specs.RangeLaws.{inside}
 use Rattle.netlist.specs.Image.{nodes, channels, kind, from, to, port, stations, depth, inputs}
-use Rattle.netlist.specs.Judge.{feeds, badKind, badWire, badPort, badStations, badDepth}
+use Rattle.netlist.specs.Judge.{badKind, badWire, badPort, badStations, badDepth}
 
 module _ (img : List ℕ) where
   pub sizes-ok : ((outside 1 64 (nodes img) || ltb 96 (channels img)) ≡ false) ↔ ((1 ≤ nodes img) × (nodes img ≤ 64) × (channels img ≤ 96))
@@ -43,16 +43,6 @@ module _ (img : List ℕ) where
   pub port-ok : (c : ℕ) → (badPort img c ≡ false) ↔ (port img c < inputs (kind img (to img c)))
   unfolding badPort
   port-ok c = (leb-false (inputs (kind img (to img c))) (port img c), lt-leb (inputs (kind img (to img c))) (port img c))
-
-  -- channel c feeds port p of node n
-  pub feeds-ok : (n p c : ℕ) → (feeds img n p c ≡ true) ↔ ((to img c ≡ n) × (port img c ≡ p))
-  unfolding feeds
-  feeds-ok n p c =
-      let t = eqb (to img c) n in
-      let q = eqb (port img c) p in (
-        λ e. (eqb-true (to img c) n (and-left t q e), eqb-true (port img c) p (and-right t q e)),
-        λ h. rw (eq-eqb (to img c) n (h .0), eq-eqb (port img c) p (h .1)),
-      )
 
   pub stations-ok : (c : ℕ) → (badStations img c ≡ false) ↔ (stations img c ≤ 8)
   unfolding badStations

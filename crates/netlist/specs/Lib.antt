@@ -3,9 +3,14 @@ pub mod Image
 pub mod Judge
 pub mod Readers
 pub mod Examples
--- What acceptance gives, for other crates; and that the first 803 bytes of an input decide.
+-- For other crates: what acceptance gives; images that differ in their depths; arrays with a place for each port; that the first 803 bytes of an
+-- input decide.
 pub mod Accepted
 pub mod AcceptedLaws
+pub mod Alike
+pub mod AlikeLaws
+pub mod Ports
+pub mod PortsLaws
 pub mod Head
 -- Laws behind these.
 pub mod ImageLaws

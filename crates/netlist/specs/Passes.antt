@@ -1,21 +1,17 @@
 -- What the judge's passes hold after c channels: the equations that its loops keep.
-use mathlib.Core.Bool.{Bool, true, false, not, _||_}
+use mathlib.Core.Bool.{Bool, true, false, not}
 use mathlib.Core.List.{List}
 use mathlib.Core.Path.{_≡_}
-use Prim.Native.Nat.{ℕ, zero, suc, _+_, _*_, _≤_, _<_}
+use Prim.Native.Nat.{ℕ, _*_, _≤_}
 use lib.Dec.{ltb}
-use lib.ListN.{getD, set, replicate}
+use lib.ListN.{getD}
 use Rattle.laws.specs.Below.{anyBelow, sumBelow}
 use Rattle.laws.specs.Choice.{_if_else_}
 use Rattle.netlist.specs.declared.passes.Found.{Found}
 use Rattle.netlist.specs.declared.passes.Fed.{Fed}
 use Rattle.netlist.specs.Image.{kind, to, port, stations, inputs}
 use Rattle.netlist.specs.Judge.{badWire, badPort, badStations, badDepth}
-
--- the channels below c lead to ports that have a place
-pub record Wired (img : List ℕ) (c : ℕ) : Type 0 where
-  pub node : (k : ℕ) → k < c → to img k < 64
-  pub input : (k : ℕ) → k < c → port img k < 3
+use Rattle.netlist.specs.Ports.{place, portsBelow}
 
 -- numbers 5, 6, 9, 10 and the sum for 11, over the channels below c
 unfoldable pub foundBelow : List ℕ → ℕ → Found
@@ -41,17 +37,14 @@ depthNumber found =
     11 if ltb 256 (found .total) else
     0
 
--- the place of port p of node n among 3 ports for each of 64 nodes
-abbrev pub place : ℕ → ℕ → ℕ
-place n p = 3 * n + p
+-- the marks of the ports that the channels below c feed
+unfoldable pub marksBelow : List ℕ → ℕ → List Bool
+marksBelow img c = portsBelow img (λ k. true) false c
 
--- the ports that the channels below c feed, and whether one of them is fed twice
+-- these, and whether a channel below c found its port marked
 unfoldable pub fedBelow : List ℕ → ℕ → Fed
-fedBelow img zero = record { twice = false; ports = replicate 192 false }
-fedBelow img (suc c) =
-    let old = fedBelow img c in
-    let at = place (to img c) (port img c) in
-    record { twice = old .twice || getD (old .ports) at false; ports = set (old .ports) at true }
+fedBelow img c =
+    record { twice = anyBelow (λ k. getD (marksBelow img k) (place (to img k) (port img k)) false) c; ports = marksBelow img c }
 
 -- a port of node n that is not fed
 unfoldable pub misses : List ℕ → List Bool → ℕ → Bool

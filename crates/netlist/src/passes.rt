@@ -11,8 +11,9 @@ ghost use Prim.Native.Nat.{_+_, _<_, _≤_};
 ghost use Rattle.laws.specs.Below.{anyBelow};
 ghost use Rattle.netlist.specs.Image.{nodes, channels};
 ghost use Rattle.netlist.specs.Judge.{badKind, judge};
+ghost use Rattle.netlist.specs.Ports.{Wired};
 ghost use Rattle.netlist.specs.Clear.{Sized};
-ghost use Rattle.netlist.specs.Passes.{Wired, foundBelow, Passed, depthNumber, fedBelow, misses};
+ghost use Rattle.netlist.specs.Passes.{foundBelow, Passed, depthNumber, fedBelow, misses};
 
 // What a pass over the channels finds: whether number 5, 6, 9 or 10 has a cause, and all stations.
 pub struct Found {

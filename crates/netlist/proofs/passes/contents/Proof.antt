@@ -9,7 +9,8 @@ use Rattle.laws.specs.Choice.{_if_else_}
 use Rattle.netlist.specs.Image.{nodes, channels}
 use Rattle.netlist.specs.Judge.{judge, badKind, badWire, badPort, fedTwice, notFed}
 use Rattle.netlist.specs.JudgeLaws.{sizes-ok}
-use Rattle.netlist.specs.Passes.{Wired, foundBelow, depthNumber}
+use Rattle.netlist.specs.Passes.{foundBelow, depthNumber}
+use Rattle.netlist.specs.Ports.{Wired}
 use Rattle.netlist.specs.PassesLaws.{wired, twice-is, misses-is}
 use Rattle.netlist.proofs.passes.contents.Statement.{statement}
 use Rattle.netlist.proofs.passes.contents.Tie as tie

@@ -3,9 +3,11 @@ use mathlib.Core.Path.{_≡_, refl}
 use Prim.Native.Nat.{_≤_, _<_, _+_, _*_, _-_}
 use native.Mathlib.Numerals.{add-one}
 use native.Mathlib.Omega.{arith}
+use Rattle.laws.specs.Below.{anyBelow}
 use Rattle.netlist.specs.Image.{channels, to, port}
-use Rattle.netlist.specs.Passes.{fedBelow, place}
-use Rattle.netlist.specs.PassesLaws.{place-there}
+use Rattle.netlist.specs.Passes.{marksBelow, fedBelow}
+use Rattle.netlist.specs.Ports.{place, portsBelow}
+use Rattle.netlist.specs.PortsLaws.{place-there}
 use Rattle.netlist.specs.Readers.{channelAt}
 use Rattle.netlist.proofs.passes.feed_ports.Statement.{statement}
 use Rattle.netlist.proofs.passes.feed_ports.Tie as tie
@@ -28,7 +30,7 @@ channels-requires : tie.Need-channels-requires Inv-loop μ-loop
 channels-requires c κs = tt
 
 loop-holds : tie.Need-loop-holds Inv-loop μ-loop
-unfolding fedBelow
+unfolding anyBelow portsBelow marksBelow fedBelow
 loop-holds c = (omega arith, refl)
 
 channel-at-requires : tie.Need-channel-at-requires Inv-loop μ-loop
@@ -63,7 +65,7 @@ loop-less : tie.Need-loop-less Inv-loop μ-loop
 loop-less c = omega arith
 
 loop-again : tie.Need-loop-again Inv-loop μ-loop
-unfolding fedBelow
+unfolding anyBelow portsBelow marksBelow fedBelow
 loop-again c = (omega arith, rw (add-one, at-port (c .before), c .before .before .before .before .before .loop .inv .1))
 
 returns : tie.Need-returns Inv-loop μ-loop

@@ -1,0 +1,1 @@
+// No code: what the specs say of a node in its netlist.
