@@ -9,6 +9,7 @@ use lib.ListN.{length, getD, set, drop, replicate, length-append, length-drop, l
 use lib.Seq.{drop-cons, drop-append-add, getD-at, set-at, ext-getD}
 use Rattle.laws.specs.Cases.{below-suc}
 use Rattle.laws.specs.Lists.{padded}
+use Rattle.laws.specs.ListsLaws.{padded-set}
 use Rattle.laws.specs.Table.{table, tableOver}
 
 module _ {A : Type 0} where
@@ -67,9 +68,14 @@ module _ {A : Type 0} where
       let e : n ≡ length xs + (n - length xs) = omega arith in
       let r : m - length xs - (n - length xs) ≡ m - n = omega arith in
       let rest : drop n (xs ++ replicate (m - length xs) d) ≡ replicate (m - n) d =
-          ap (λ k. drop k (xs ++ replicate (m - length xs) d)) e ∙ drop-append-add xs (replicate (m - length xs) d) (n - length xs)
-          ∙ drop-replicate (n - length xs) (m - length xs) d ∙ ap (λ k. replicate k d) r in
+      ap (λ k. drop k (xs ++ replicate (m - length xs) d)) e ∙ drop-append-add xs (replicate (m - length xs) d) (n - length xs)
+      ∙ drop-replicate (n - length xs) (m - length xs) d ∙ ap (λ k. replicate k d) r in
       rw (rest, length-table)
+
+  -- one more entry of a table that is padded
+  pub padded-table : (f : ℕ → A) (n m : ℕ) (d : A) → n < m → set (padded m d (table f n)) n (f n) ≡ padded m d (table f (suc n))
+  unfolding table
+  padded-table f n m d h = rw length-table at (padded-set m d (table f n) (f n) (rw length-table h))
 
 -- a list is the table of its own elements
 pub table-own : {A : Type 0} (l : List A) (d : A) → l ≡ table (λ i. getD l i d) (length l)

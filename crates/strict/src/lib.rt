@@ -1,0 +1,164 @@
+// The strict reference run: the values that the nodes have where every wire takes no time.
+ghost use mathlib.Core.Path.{_≡_};
+ghost use Prim.Native.Nat.{_<_, _≤_};
+ghost use lib.IntN.{pos};
+ghost use lib.ListN.{length, getD};
+ghost use Rattle.laws.specs.Table.{tableOver};
+ghost use Rattle.netlist.specs.Image.{nodes, channels};
+ghost use Rattle.netlist.specs.Accepted.{Accepted};
+ghost use Rattle.netlist.specs.Ports.{Wired};
+ghost use Rattle.strict.specs.Answer.{strictNumber, strictWritten};
+ghost use Rattle.strict.specs.Decoded.{coresAt, feedersBelow, Within, portOn, nextOn, coresAfter};
+
+// The cores as decoded: each node's kind and its value in a cycle. Place 64 of the values is no
+// node's and stays 0, for ports that no channel feeds.
+struct Cores {
+    kinds: [u8; 64],
+    values: [i32; 65],
+}
+
+// The last cycle that may be asked for.
+const LAST: u32 = 1000000;
+
+// The cores in cycle 0.
+fn start(image: &[u8]) -> Cores
+    requires { ⌜ nodes (now image) ≤ 64 ⌝ }
+    ensures { λ r. ⌜ r ≡ coresAt (now (image .entry)) 0 ⌝ }
+{
+    let nodes = netlist::nodes(image);
+    let mut cores = Cores {
+        kinds: [0; 64],
+        values: [0; 65],
+    };
+    for n in 0..nodes {
+        let core = netlist::core_at(image, n);
+        let at = n as usize;
+        let kind = core.kind;
+        let parameter = core.parameter;
+        cores.kinds[at] = kind;
+        cores.values[at] = parameter;
+    }
+    cores
+}
+
+// The node that feeds each port, three places a node.
+fn feeders(image: &[u8]) -> [u8; 192]
+    requires { ⌜ Wired (now image) (channels (now image)) ⌝ }
+    ensures { λ r. ⌜ r ≡ feedersBelow (now (image .entry)) (channels (now (image .entry))) ⌝ }
+{
+    let channels = netlist::channels(image);
+    let mut feeders = [64; 192];
+    for c in 0..channels {
+        let channel = netlist::channel_at(image, c);
+        let to = channel.to as usize;
+        let port = channel.port as usize;
+        let from = channel.from;
+        feeders[3 * to + port] = from;
+    }
+    feeders
+}
+
+// The value on the port at a place.
+fn brought(values: &[i32; 65], feeders: &[u8; 192], at: usize) -> i32
+    requires { ⌜ (at < 192) × Within (now feeders) ⌝ }
+    ensures { λ r. ⌜ r ≡ portOn (now (values .entry)) (now (feeders .entry)) at ⌝ }
+{
+    let feeder = feeders[at] as usize;
+    values[feeder]
+}
+
+// The next value of node n, whose kind and present value are given.
+fn next_on(kind: u8, s: i32, values: &[i32; 65], feeders: &[u8; 192], n: usize) -> i32
+    requires { ⌜ (n < 64) × Within (now feeders) ⌝ }
+    ensures { λ r. ⌜ r ≡ nextOn kind s (now (values .entry)) (now (feeders .entry)) n ⌝ }
+{
+    let at = 3 * n;
+    let a = brought(values, feeders, at);
+    let b = brought(values, feeders, at + 1);
+    let c = brought(values, feeders, at + 2);
+    let next = pearl::next_value(kind, s, a, b, c);
+    next.value
+}
+
+// The first `nodes` cores after a cycle, each from the values before it.
+fn after(cores: Cores, feeders: &[u8; 192], nodes: usize) -> Cores
+    requires { ⌜ (nodes ≤ 64) × Within (now feeders) ⌝ }
+    ensures { λ r. ⌜ r ≡ coresAfter cores (now (feeders .entry)) nodes ⌝ }
+{
+    let kinds = cores.kinds;
+    let values = cores.values;
+    let mut next = values;
+    let mut n: usize = 0;
+    while n < nodes {
+        let s = values[n];
+        let value = next_on(kinds[n], s, &values, feeders, n);
+        next[n] = value;
+        n += 1;
+    }
+    Cores {
+        kinds,
+        values: next,
+    }
+}
+
+// The cores in a cycle.
+fn reached(image: &[u8], cycle: u32) -> Cores
+    requires { ⌜ Accepted (now image) ⌝ }
+    ensures { λ r. ⌜ r ≡ coresAt (now (image .entry)) cycle ⌝ }
+{
+    let nodes = netlist::nodes(image) as usize;
+    let feeders = feeders(image);
+    let mut cores = start(image);
+    for t in 0..cycle {
+        cores = after(cores, &feeders, nodes);
+    }
+    cores
+}
+
+// Their first `nodes` values, written to a lent array.
+fn write(cores: Cores, nodes: usize, values: &mut [i32])
+    requires { ⌜ (nodes ≤ 64) × (nodes ≤ length (now values)) ⌝ }
+    ensures { λ _. ⌜ now (values .exit) ≡ tableOver (λ n. getD (cores .values) n (pos 0)) nodes (now (values .entry)) ⌝ }
+{
+    let mut i: usize = 0;
+    while i < nodes {
+        let value = cores.values[i];
+        values[i] = value;
+        i += 1;
+    }
+}
+
+// The number of a run that is lent an array of so many places: the image's, then 14, then 13.
+fn number(image: &[u8], cycle: u32, room: usize) -> u8
+    ensures { λ r. ⌜ r ≡ strictNumber (now (image .entry)) cycle room ⌝ }
+{
+    let judged = netlist::judge(image);
+    let nodes = netlist::nodes(image) as usize;
+    if judged != 0 {
+        return judged;
+    }
+    if LAST < cycle {
+        return 14;
+    }
+    if room < nodes {
+        return 13;
+    }
+    0
+}
+
+// The values of all N nodes in a cycle, written to the first N places of `values`: 0, or a number and
+// nothing is written. The numbers are the judge's, then 14 for a cycle over 1,000,000, then 13 for
+// fewer than N places.
+pub fn strict(image: &[u8], cycle: u32, values: &mut [i32]) -> u8
+    ensures { λ r. ⌜ r ≡ strictNumber (now (image .entry)) cycle (length (now (values .entry))) ⌝ }
+    ensures { λ _. ⌜ now (values .exit) ≡ strictWritten (now (image .entry)) cycle (now (values .entry)) ⌝ }
+{
+    let number = number(image, cycle, values.len());
+    if number != 0 {
+        return number;
+    }
+    let nodes = netlist::nodes(image) as usize;
+    let cores = reached(image, cycle);
+    write(cores, nodes, values);
+    0
+}
