@@ -1,12 +1,15 @@
 -- Laws of signed numbers in words of 32 and 64 bits: what proofs say of `toZ w (ofZ w z)`. Assumes nothing.
 use mathlib.Core.Path.{_≡_, sym, _∙_}
+use mathlib.Core.Bool.{true, false, true≢false}
 use mathlib.Core.Logic.{⊎-elim}
 use Prim.Native.Nat.{ℕ, suc, _-_, _^_, _<_, _≤_}
+use native.Mathlib.Nat.{zero-add}
 use native.Mathlib.Omega.{arith}
 use borrow.Author.Needs.{needs}
-use borrow.Author.Tests.{lt-ltb, le-ltb}
-use lib.IntN.{ℤ, pos, negsuc, subℕ, _-ℤ_}
-use lib.Signed.{mag}
+use borrow.Author.Tests.{lt-ltb, le-ltb, ltb-true}
+use lib.Dec.{T}
+use lib.IntN.{ℤ, pos, negsuc, subℕ, _-ℤ_, natAbs}
+use lib.Signed.{mag, ltZ, nonNeg}
 use mir.Syntax.{w32, w64}
 use mir.Val.{SFits}
 use mir.Facts.{sfits-widen}
@@ -29,6 +32,15 @@ sub-below a b h = rw lt-ltb
 
 pub sub-above : (a b : ℕ) → b ≤ a → subℕ a b ≡ pos (a - b)
 sub-above a b h = rw le-ltb
+
+-- how far a number below 0 lies from it; and what is not below 0 is a natural
+pub negated : (z : ℤ) → ltZ z (pos 0) ≡ true → pos 0 -ℤ z ≡ pos (natAbs z)
+negated (pos n) e = let h : n < 0 = ltb-true n 0 e in absurd (omega arith)
+negated (negsuc n) e = rw zero-add
+
+pub not-negative : (z : ℤ) → ltZ z (pos 0) ≡ false → T (nonNeg z)
+not-negative (pos n) e = tt
+not-negative (negsuc n) e = absurd (true≢false e)
 
 -- the lower half of the words is itself, and the upper half is 2 ^ 32 less
 pub signed-low : (n : ℕ) → n < 2 ^ 31 → signed n ≡ pos n
