@@ -10,7 +10,7 @@ use Rattle.laws.specs.Below.{pickBelow}
 use Rattle.laws.specs.BelowLaws.{pick-one, pick-map}
 use Rattle.laws.specs.ListsLaws.{getD-padded}
 use Rattle.laws.specs.Table.{table, tableOver}
-use Rattle.laws.specs.TableLaws.{table-same, table-own, getD-any, table-at, over-padded, over-same, padded-table}
+use Rattle.laws.specs.TableLaws.{getD-any, table-at, table-same, table-own, over-padded, over-same, padded-table}
 use Rattle.netlist.specs.Image.{nodes, channels, kind, parameter, from, feeds}
 use Rattle.netlist.specs.declared.Core.{Core}
 use Rattle.netlist.specs.Readers.{coreAt}
@@ -22,23 +22,27 @@ use Rattle.node.specs.Node.{portValue, nextOf}
 use Rattle.strict.specs.Strict.{strictNext, strictCycle}
 use Rattle.strict.specs.StrictLaws.{length-cycle}
 use Rattle.strict.specs.declared.Cores.{Cores}
-use Rattle.strict.specs.Decoded.{coresAt, startBelow, feedersBelow, Within, portOn, nextOn, coreAfter, coresAfter}
+use Rattle.strict.specs.Decoded.{coresBelow, feedersBelow, Within, portOn, nextOn, valueAfter, valuesAfter, valuesAt}
 
 -- one more node is read
-pub start-turn :
-    (img : List ℕ) (n : ℕ) → n < 64 → (cores : Cores) → cores ≡ startBelow img n → (core : Core) → core ≡ coreAt img n
-    → record { kinds = set (cores .kinds) n (core .kind); values = set (cores .values) n (core .parameter) } ≡ startBelow img (suc n)
-unfolding startBelow coreAt
-start-turn img n h cores e core r =
+pub cores-turn :
+    (img : List ℕ) (n : ℕ) → n < 64 → (cores : Cores) → cores ≡ coresBelow img n → (core : Core) → core ≡ coreAt img n
+    → record { kinds = set (cores .kinds) n (core .kind); parameters = set (cores .parameters) n (core .parameter) } ≡ coresBelow img (suc n)
+unfolding coresBelow coreAt
+cores-turn img n h cores e core r =
     rw (e, r, padded-table (kind img) n 64 0 h, padded-table (parameter img) n 65 (pos 0) (omega arith))
 
-pub start-all : (img : List ℕ) → startBelow img (nodes img) ≡ coresAt img 0
-unfolding startBelow coresAt strictCycle
-start-all img = refl
-
 module _ (img : List ℕ) (a : Accepted img) where
+  abbrev cores : Cores
+  cores = coresBelow img (nodes img)
+
   abbrev feeders : List ℕ
   feeders = feedersBelow img (channels img)
+
+  -- all parameters are the values of cycle 0
+  pub values-first : record { at = cores .parameters } ≡ valuesAt img 0
+  unfolding coresBelow valuesAt strictCycle
+  values-first = refl
 
   -- the entry at a port's place
   feeder-at : (n p : ℕ) → n < 64 → p < 3 → getD feeders (place n p) 0 ≡ pickBelow (feeds img n p) (from img) 64 (channels img)
@@ -57,50 +61,51 @@ module _ (img : List ℕ) (a : Accepted img) where
       (pick-one (λ n. n < 65) (feeds img (k / 3) (k % 3)) (from img) 64 (channels img) (omega arith)
       (λ c l. omega (arith, a .wires c l, a .few-nodes))))
 
-  -- and the value there is what stands on the port
+  kind-at : (n : ℕ) → n < nodes img → getD (cores .kinds) n 0 ≡ kind img n
+  unfolding coresBelow
+  kind-at n h = getD-padded 64 0 (table (kind img) (nodes img)) n ∙ table-at (kind img) (nodes img) n 0 h
+
+  value-at : (t n : ℕ) → getD (valuesAt img t .at) n (pos 0) ≡ getD (strictCycle img t) n (pos 0)
+  unfolding valuesAt
+  value-at t n = getD-padded 65 (pos 0) (strictCycle img t) n
+
+  -- the value at a port's feeder is what stands on the port
   port-on :
       (t n p : ℕ) → n < 64 → p < 3
-      → portOn (coresAt img t .values) feeders (place n p) ≡ portValue img (λ c. getD (strictCycle img t) (from img c) (pos 0)) n p
-  unfolding portOn coresAt portValue
+      → portOn (valuesAt img t .at) feeders (place n p) ≡ portValue img (λ c. getD (strictCycle img t) (from img c) (pos 0)) n p
+  unfolding portOn portValue
   port-on t n p h l =
       let vs = strictCycle img t in
       let none : getD vs 64 (pos 0) ≡ pos 0 = List·getD-eq-default vs (pos 0) (omega (arith, length-cycle img t, a .few-nodes)) in
-      rw (feeder-at n p h l, getD-padded, pick-map (λ k. getD vs k (pos 0)) (feeds img n p) (from img) 64 (channels img), none)
+      rw (feeder-at n p h l, value-at t, pick-map (λ k. getD vs k (pos 0)) (feeds img n p) (from img) 64 (channels img), none)
 
-  kind-on : (t n : ℕ) → n < nodes img → getD (coresAt img t .kinds) n 0 ≡ kind img n
-  unfolding coresAt
-  kind-on t n h = getD-padded 64 0 (table (kind img) (nodes img)) n ∙ table-at (kind img) (nodes img) n 0 h
-
-  value-on : (t n : ℕ) → getD (coresAt img t .values) n (pos 0) ≡ getD (strictCycle img t) n (pos 0)
-  unfolding coresAt
-  value-on t n = getD-padded 65 (pos 0) (strictCycle img t) n
-
-  core-on : (t n : ℕ) → n < nodes img → coreAfter (coresAt img t .kinds) (coresAt img t .values) feeders n ≡ strictNext img (strictCycle img t) n
-  unfolding coreAfter nextOn strictNext nextOf
-  core-on t n h =
+  value-after : (t n : ℕ) → n < nodes img → valueAfter (cores .kinds) feeders (valuesAt img t .at) n ≡ strictNext img (strictCycle img t) n
+  unfolding valueAfter nextOn strictNext nextOf
+  value-after t n h =
       let l : n < 64 = omega (arith, a .few-nodes) in
-      let values = coresAt img t .values in
+      let values = valuesAt img t .at in
       let first : portOn values feeders (3 * n) ≡ portOn values feeders (place n 0) = rw add-zero in
-      rw (kind-on t n h, value-on t n, first, port-on t n 0 l (omega arith), port-on t n 1 l (omega arith), port-on t n 2 l (omega arith))
+      rw (kind-at n h, value-at t n, first, port-on t n 0 l (omega arith), port-on t n 1 l (omega arith), port-on t n 2 l (omega arith))
 
-  -- so all of them after a cycle are the next cycle's
-  pub cycle-on : (t : ℕ) → coresAfter (coresAt img t) feeders (nodes img) ≡ coresAt img (suc t)
-  unfolding coresAfter coresAt strictCycle
-  cycle-on t =
+  -- so all values after a cycle are the next cycle's
+  pub values-after : (t : ℕ) → valuesAfter (cores .kinds) feeders (nodes img) (valuesAt img t) ≡ valuesAt img (suc t)
+  unfolding valuesAfter valuesAt strictCycle
+  values-after t =
       let vs = strictCycle img t in
-      let cores = coresAt img t in
+      let old = valuesAt img t .at in
       rw (
-        over-same (coreAfter (cores .kinds) (cores .values) feeders) (strictNext img vs) (nodes img) (cores .values) (core-on t),
+        over-same (valueAfter (cores .kinds) feeders old) (strictNext img vs) (nodes img) old (value-after t),
         over-padded (strictNext img vs) (nodes img) 65 (pos 0) vs (omega (arith, length-cycle img t)),
       )
 
-  -- the first N values are the cycle's
-  pub values-on : (t : ℕ) (old : List ℤ) → tableOver (λ n. getD (coresAt img t .values) n (pos 0)) (nodes img) old ≡ strictCycle img t ++ drop (nodes img) old
+  -- and the first N of them are the cycle
+  pub values-written :
+      (t : ℕ) (old : List ℤ) → tableOver (λ n. getD (valuesAt img t .at) n (pos 0)) (nodes img) old ≡ strictCycle img t ++ drop (nodes img) old
   unfolding tableOver
-  values-on t old =
+  values-written t old =
       let vs = strictCycle img t in
       rw (
-        table-same (λ n. getD (coresAt img t .values) n (pos 0)) (λ n. getD vs n (pos 0)) (nodes img) (λ n h. value-on t n),
+        table-same (λ n. getD (valuesAt img t .at) n (pos 0)) (λ n. getD vs n (pos 0)) (nodes img) (λ n h. value-at t n),
         ← (length-cycle img t),
         ← (table-own vs (pos 0)),
       )

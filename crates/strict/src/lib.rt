@@ -8,27 +8,31 @@ ghost use Rattle.netlist.specs.Image.{nodes, channels};
 ghost use Rattle.netlist.specs.Accepted.{Accepted};
 ghost use Rattle.netlist.specs.Ports.{Wired};
 ghost use Rattle.strict.specs.Answer.{strictNumber, strictWritten};
-ghost use Rattle.strict.specs.Decoded.{coresAt, feedersBelow, Within, portOn, nextOn, coresAfter};
+ghost use Rattle.strict.specs.Decoded.{coresBelow, feedersBelow, Within, portOn, nextOn, valuesAfter, valuesAt};
 
-// The cores as decoded: each node's kind and its value in a cycle. Place 64 of the values is no
-// node's and stays 0, for ports that no channel feeds.
+// What is decoded of the nodes: each one's kind and parameter.
 struct Cores {
     kinds: [u8; 64],
-    values: [i32; 65],
+    parameters: [i32; 65],
+}
+
+// The nodes' values in a cycle. Place 64 is no node's and stays 0, for ports that no channel feeds.
+struct Values {
+    at: [i32; 65],
 }
 
 // The last cycle that may be asked for.
 const LAST: u32 = 1000000;
 
-// The cores in cycle 0.
+// All kinds and parameters.
 fn start(image: &[u8]) -> Cores
     requires { ⌜ nodes (now image) ≤ 64 ⌝ }
-    ensures { λ r. ⌜ r ≡ coresAt (now (image .entry)) 0 ⌝ }
+    ensures { λ r. ⌜ r ≡ coresBelow (now (image .entry)) (nodes (now (image .entry))) ⌝ }
 {
     let nodes = netlist::nodes(image);
     let mut cores = Cores {
         kinds: [0; 64],
-        values: [0; 65],
+        parameters: [0; 65],
     };
     for n in 0..nodes {
         let core = netlist::core_at(image, n);
@@ -36,7 +40,7 @@ fn start(image: &[u8]) -> Cores
         let kind = core.kind;
         let parameter = core.parameter;
         cores.kinds[at] = kind;
-        cores.values[at] = parameter;
+        cores.parameters[at] = parameter;
     }
     cores
 }
@@ -80,13 +84,12 @@ fn next_on(kind: u8, s: i32, values: &[i32; 65], feeders: &[u8; 192], n: usize) 
     next.value
 }
 
-// The first `nodes` cores after a cycle, each from the values before it.
-fn after(cores: Cores, feeders: &[u8; 192], nodes: usize) -> Cores
+// The values after a cycle, each of the first `nodes` from the values before it.
+fn after(kinds: &[u8; 64], feeders: &[u8; 192], nodes: usize, old: Values) -> Values
     requires { ⌜ (nodes ≤ 64) × Within (now feeders) ⌝ }
-    ensures { λ r. ⌜ r ≡ coresAfter cores (now (feeders .entry)) nodes ⌝ }
+    ensures { λ r. ⌜ r ≡ valuesAfter (now (kinds .entry)) (now (feeders .entry)) nodes old ⌝ }
 {
-    let kinds = cores.kinds;
-    let values = cores.values;
+    let values = old.at;
     let mut next = values;
     let mut n: usize = 0;
     while n < nodes {
@@ -95,34 +98,34 @@ fn after(cores: Cores, feeders: &[u8; 192], nodes: usize) -> Cores
         next[n] = value;
         n += 1;
     }
-    Cores {
-        kinds,
-        values: next,
-    }
+    Values { at: next }
 }
 
-// The cores in a cycle.
-fn reached(image: &[u8], cycle: u32) -> Cores
+// The values in a cycle.
+fn reached(image: &[u8], cycle: u32) -> Values
     requires { ⌜ Accepted (now image) ⌝ }
-    ensures { λ r. ⌜ r ≡ coresAt (now (image .entry)) cycle ⌝ }
+    ensures { λ r. ⌜ r ≡ valuesAt (now (image .entry)) cycle ⌝ }
 {
     let nodes = netlist::nodes(image) as usize;
     let feeders = feeders(image);
-    let mut cores = start(image);
+    let cores = start(image);
+    let kinds = cores.kinds;
+    let parameters = cores.parameters;
+    let mut values = Values { at: parameters };
     for t in 0..cycle {
-        cores = after(cores, &feeders, nodes);
+        values = after(&kinds, &feeders, nodes, values);
     }
-    cores
+    values
 }
 
-// Their first `nodes` values, written to a lent array.
-fn write(cores: Cores, nodes: usize, values: &mut [i32])
+// The first `nodes` values, written to a lent array.
+fn write(from: Values, nodes: usize, values: &mut [i32])
     requires { ⌜ (nodes ≤ 64) × (nodes ≤ length (now values)) ⌝ }
-    ensures { λ _. ⌜ now (values .exit) ≡ tableOver (λ n. getD (cores .values) n (pos 0)) nodes (now (values .entry)) ⌝ }
+    ensures { λ _. ⌜ now (values .exit) ≡ tableOver (λ n. getD (from .at) n (pos 0)) nodes (now (values .entry)) ⌝ }
 {
     let mut i: usize = 0;
     while i < nodes {
-        let value = cores.values[i];
+        let value = from.at[i];
         values[i] = value;
         i += 1;
     }
@@ -158,7 +161,7 @@ pub fn strict(image: &[u8], cycle: u32, values: &mut [i32]) -> u8
         return number;
     }
     let nodes = netlist::nodes(image) as usize;
-    let cores = reached(image, cycle);
-    write(cores, nodes, values);
+    let found = reached(image, cycle);
+    write(found, nodes, values);
     0
 }

@@ -1,19 +1,19 @@
--- `strict::reached` meets its contract. The loop's invariant: the cores are those in cycle t. Assumes nothing.
+-- `strict::reached` meets its contract. The loop's invariant: the values are those of cycle t. Assumes nothing.
 use mathlib.Core.Path.{_≡_}
 use Prim.Native.Nat.{_≤_, _-_}
 use native.Mathlib.Numerals.{add-one}
 use native.Mathlib.Omega.{arith}
 use Rattle.netlist.specs.AcceptedLaws.{accepted-wired}
-use Rattle.strict.specs.Decoded.{coresAt}
-use Rattle.strict.specs.DecodedLaws.{feeders-within, cycle-on}
+use Rattle.strict.specs.Decoded.{valuesAt}
+use Rattle.strict.specs.DecodedLaws.{feeders-within, values-first, values-after}
 use Rattle.strict.proofs.reached.Statement.{statement}
 use Rattle.strict.proofs.reached.Tie as tie
 
 abbrev Inv-loop : tie.InvT-loop
-Inv-loop image cycle nodes feeders cores₀ t₀ cores t = (t ≤ cycle) × (cores ≡ coresAt image t)
+Inv-loop image cycle nodes feeders kinds values₀ t₀ values t = (t ≤ cycle) × (values ≡ valuesAt image t)
 
 abbrev μ-loop : tie.MeasureT-loop
-μ-loop image cycle nodes feeders cores₀ t₀ cores t = cycle - t
+μ-loop image cycle nodes feeders kinds values₀ t₀ values t = cycle - t
 
 nodes-requires : tie.Need-nodes-requires Inv-loop μ-loop
 nodes-requires c κs = tt
@@ -28,12 +28,15 @@ start-requires : tie.Need-start-requires Inv-loop μ-loop
 start-requires c κs = c .before .before .before .pre .few-nodes
 
 loop-holds : tie.Need-loop-holds Inv-loop μ-loop
-loop-holds c = (omega arith, c .start .ensures)
+loop-holds c =
+    let r = c .before .before in
+    let s = r .before .before .before .before in
+    (omega arith, rw (r .start .ensures) (values-first (s .args .image .now) (s .pre)))
 
 after-requires : tie.Need-after-requires Inv-loop μ-loop
 after-requires c κs =
-    let l = c .before .before in
-    let f = l .before .before in
+    let l = c .before .before .before in
+    let f = l .before .before .before .before in
     let s = f .before .before .before in
     (omega (arith, f .before .nodes .ensures, s .pre .few-nodes), rw (f .feeders .ensures) (feeders-within (s .args .image .now) (s .pre)))
 
@@ -45,14 +48,18 @@ loop-less c = omega arith
 
 loop-again : tie.Need-loop-again Inv-loop μ-loop
 loop-again c =
-    let l = c .before .before .before in
-    let f = l .before .before in
-    let s = f .before .before .before in
-    (omega arith, rw (c .after .ensures, l .loop .inv .1, f .feeders .ensures, f .before .nodes .ensures, add-one) (cycle-on (s .args .image .now) (s .pre) (l .loop .t)))
+    let l = c .before .before .before .before in
+    let r = l .before .before .before in
+    let f = r .before in
+    let s = f .before .before .before in (
+      omega arith,
+      rw (c .after .ensures, l .loop .inv .1, r .start .ensures, f .feeders .ensures, f .before .nodes .ensures, add-one)
+          (values-after (s .args .image .now) (s .pre) (l .loop .t)),
+    )
 
 returns : tie.Need-returns Inv-loop μ-loop
 returns c =
-    let e : c .before .loop .t ≡ c .before .before .before .before .before .before .args .cycle = omega arith in
+    let e : c .before .loop .t ≡ c .before .before .before .before .before .before .before .before .args .cycle = omega arith in
     rw e at (c .before .loop .inv .1)
 
 pub reached-spec : {M : Type 1} → statement M

@@ -1,5 +1,5 @@
 -- `strict::start` meets its contract. The loop's invariant: the nodes below n are read. Assumes nothing.
-use mathlib.Core.Path.{_≡_, refl, _∙_}
+use mathlib.Core.Path.{_≡_, refl}
 use Prim.Native.Nat.{_≤_, _<_, _-_}
 use native.Mathlib.Numerals.{add-one}
 use native.Mathlib.Omega.{arith}
@@ -10,13 +10,13 @@ use mir.Facts.{toZ-ofZ}
 use Rattle.laws.specs.Lists.{padded}
 use Rattle.laws.specs.Table.{table}
 use Rattle.netlist.specs.Image.{nodes}
-use Rattle.strict.specs.Decoded.{startBelow}
-use Rattle.strict.specs.DecodedLaws.{start-turn, start-all}
+use Rattle.strict.specs.Decoded.{coresBelow}
+use Rattle.strict.specs.DecodedLaws.{cores-turn}
 use Rattle.strict.proofs.start.Statement.{statement}
 use Rattle.strict.proofs.start.Tie as tie
 
 abbrev Inv-loop : tie.InvT-loop
-Inv-loop image nodes cores₀ n₀ cores n = (n ≤ nodes) × (cores ≡ startBelow image n)
+Inv-loop image nodes cores₀ n₀ cores n = (n ≤ nodes) × (cores ≡ coresBelow image n)
 
 abbrev μ-loop : tie.MeasureT-loop
 μ-loop image nodes cores₀ n₀ cores n = nodes - n
@@ -28,7 +28,7 @@ nodes-requires : tie.Need-nodes-requires Inv-loop μ-loop
 nodes-requires c κs = tt
 
 loop-holds : tie.Need-loop-holds Inv-loop μ-loop
-unfolding padded table startBelow
+unfolding padded table coresBelow
 loop-holds c = (omega arith, refl)
 
 core-at-requires : tie.Need-core-at-requires Inv-loop μ-loop
@@ -58,14 +58,14 @@ loop-again c =
     let img = l .before .before .before .args .image .now in
     let f : SFits w32 (c .before .core-at .result .parameter) = search needs in
     let h : l .loop .n < 64 = omega (arith, few (l .before)) in
-    (omega arith, rw (toZ-ofZ f, add-one) (start-turn img (l .loop .n) h (l .loop .cores) (l .loop .inv .1) (c .before .core-at .result) (c .before .core-at .ensures)))
+    (omega arith, rw (toZ-ofZ f, add-one) (cores-turn img (l .loop .n) h (l .loop .cores) (l .loop .inv .1) (c .before .core-at .result) (c .before .core-at .ensures)))
 
 returns : tie.Need-returns Inv-loop μ-loop
 returns c =
     let l = c .before in
     let img = l .before .before .before .args .image .now in
     let e : l .loop .n ≡ nodes img = omega (arith, l .before .nodes .ensures) in
-    rw e at (l .loop .inv .1) ∙ start-all img
+    rw e at (l .loop .inv .1)
 
 pub start-spec : {M : Type 1} → statement M
 start-spec =

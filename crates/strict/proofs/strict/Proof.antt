@@ -9,7 +9,7 @@ use Rattle.netlist.specs.Accepted.{Accepted}
 use Rattle.netlist.specs.AcceptedLaws.{accepted}
 use Rattle.strict.specs.Answer.{strictNumber}
 use Rattle.strict.specs.AnswerLaws.{number-ok, written-none, written-all}
-use Rattle.strict.specs.DecodedLaws.{values-on}
+use Rattle.strict.specs.DecodedLaws.{values-written}
 use Rattle.strict.proofs.strict.Statement.{statement}
 use Rattle.strict.proofs.strict.Tie as tie
 
@@ -59,7 +59,7 @@ returns-2 c =
     let a = e .before .before .before .args in (
       sym (none e),
       (rw (r .reached .ensures, n .nodes .ensures) at (w .write .ensures))
-          ∙ values-on (a .image .now) (ok e .0) (a .cycle) (a .values .now) ∙ written-all (a .image .now) (a .cycle) (a .values .now) (none e),
+          ∙ values-written (a .image .now) (ok e .0) (a .cycle) (a .values .now) ∙ written-all (a .image .now) (a .cycle) (a .values .now) (none e),
     )
 
 pub strict-spec : {M : Type 1} → statement M

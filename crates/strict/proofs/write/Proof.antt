@@ -13,11 +13,11 @@ use Rattle.strict.proofs.write.Statement.{statement}
 use Rattle.strict.proofs.write.Tie as tie
 
 abbrev Inv-loop : tie.InvT-loop
-Inv-loop nodes values₀ cores i₀ values i =
-    (i ≤ nodes) × (length values ≡ length values₀) × (values ≡ tableOver (λ n. getD (cores .values) n (pos 0)) i values₀)
+Inv-loop nodes values₀ from i₀ values i =
+    (i ≤ nodes) × (length values ≡ length values₀) × (values ≡ tableOver (λ n. getD (from .at) n (pos 0)) i values₀)
 
 abbrev μ-loop : tie.MeasureT-loop
-μ-loop nodes values₀ cores i₀ values i = nodes - i
+μ-loop nodes values₀ from i₀ values i = nodes - i
 
 loop-holds : tie.Need-loop-holds Inv-loop μ-loop
 unfolding tableOver table
@@ -45,7 +45,7 @@ loop-again : tie.Need-loop-again Inv-loop μ-loop
 loop-again c =
     let l = c .before .before in
     let a = l .before .args in
-    let f : ℕ → ℤ = λ n. getD (a .t1 .values) n (pos 0) in
+    let f : ℕ → ℤ = λ n. getD (a .t1 .at) n (pos 0) in
     let h : l .loop .i < length (a .values .now) = omega (arith, l .before .pre .1) in (
       omega arith,
       simp length-set (l .loop .inv .1),
