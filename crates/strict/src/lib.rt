@@ -25,7 +25,7 @@ struct Values {
 const LAST: u32 = 1000000;
 
 // All kinds and parameters.
-fn start(image: &[u8]) -> Cores
+fn cores_of(image: &[u8]) -> Cores
     requires { ⌜ nodes (now image) ≤ 64 ⌝ }
     ensures { λ r. ⌜ r ≡ coresBelow (now (image .entry)) (nodes (now (image .entry))) ⌝ }
 {
@@ -46,7 +46,7 @@ fn start(image: &[u8]) -> Cores
 }
 
 // The node that feeds each port, three places a node.
-fn feeders(image: &[u8]) -> [u8; 192]
+fn feeders_of(image: &[u8]) -> [u8; 192]
     requires { ⌜ Wired (now image) (channels (now image)) ⌝ }
     ensures { λ r. ⌜ r ≡ feedersBelow (now (image .entry)) (channels (now (image .entry))) ⌝ }
 {
@@ -107,8 +107,8 @@ fn reached(image: &[u8], cycle: u32) -> Values
     ensures { λ r. ⌜ r ≡ valuesAt (now (image .entry)) cycle ⌝ }
 {
     let nodes = netlist::nodes(image) as usize;
-    let feeders = feeders(image);
-    let cores = start(image);
+    let feeders = feeders_of(image);
+    let cores = cores_of(image);
     let kinds = cores.kinds;
     let parameters = cores.parameters;
     let mut values = Values { at: parameters };
@@ -163,5 +163,5 @@ pub fn strict(image: &[u8], cycle: u32, values: &mut [i32]) -> u8
     let nodes = netlist::nodes(image) as usize;
     let found = reached(image, cycle);
     write(found, nodes, values);
-    0
+    number
 }

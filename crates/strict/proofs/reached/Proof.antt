@@ -21,24 +21,24 @@ nodes-requires c κs = tt
 cast-nodes : tie.Need-cast-nodes Inv-loop μ-loop
 cast-nodes c = omega arith
 
-feeders-requires : tie.Need-feeders-requires Inv-loop μ-loop
-feeders-requires c κs = accepted-wired (c .before .before .args .image .now) (c .before .before .pre)
+feeders-of-requires : tie.Need-feeders-of-requires Inv-loop μ-loop
+feeders-of-requires c κs = accepted-wired (c .before .before .args .image .now) (c .before .before .pre)
 
-start-requires : tie.Need-start-requires Inv-loop μ-loop
-start-requires c κs = c .before .before .before .pre .few-nodes
+cores-of-requires : tie.Need-cores-of-requires Inv-loop μ-loop
+cores-of-requires c κs = c .before .before .before .pre .few-nodes
 
 loop-holds : tie.Need-loop-holds Inv-loop μ-loop
 loop-holds c =
     let r = c .before .before in
     let s = r .before .before .before .before in
-    (omega arith, rw (r .start .ensures) (values-first (s .args .image .now) (s .pre)))
+    (omega arith, rw (r .cores-of .ensures) (values-first (s .args .image .now) (s .pre)))
 
 after-requires : tie.Need-after-requires Inv-loop μ-loop
 after-requires c κs =
     let l = c .before .before .before in
     let f = l .before .before .before .before in
     let s = f .before .before .before in
-    (omega (arith, f .before .nodes .ensures, s .pre .few-nodes), rw (f .feeders .ensures) (feeders-within (s .args .image .now) (s .pre)))
+    (omega (arith, f .before .nodes .ensures, s .pre .few-nodes), rw (f .feeders-of .ensures) (feeders-within (s .args .image .now) (s .pre)))
 
 add-t : tie.Need-add-t Inv-loop μ-loop
 add-t c = omega arith
@@ -53,7 +53,7 @@ loop-again c =
     let f = r .before in
     let s = f .before .before .before in (
       omega arith,
-      rw (c .after .ensures, l .loop .inv .1, r .start .ensures, f .feeders .ensures, f .before .nodes .ensures, add-one)
+      rw (c .after .ensures, l .loop .inv .1, r .cores-of .ensures, f .feeders-of .ensures, f .before .nodes .ensures, add-one)
           (values-after (s .args .image .now) (s .pre) (l .loop .t)),
     )
 
@@ -70,8 +70,8 @@ reached-spec =
     μ-loop
     nodes-requires
     cast-nodes
-    feeders-requires
-    start-requires
+    feeders-of-requires
+    cores-of-requires
     loop-holds
     after-requires
     add-t

@@ -1,5 +1,5 @@
 -- `strict::strict` meets its contract. Assumes nothing.
-use mathlib.Core.Path.{_≡_, sym, _∙_}
+use mathlib.Core.Path.{_≡_, _∙_}
 use Prim.Native.Nat.{_≤_}
 use native.Mathlib.Omega.{arith}
 use borrow.Author.Needs.{needs}
@@ -57,7 +57,7 @@ returns-2 c =
     let n = r .before in
     let e = n .before in
     let a = e .before .before .before .args in (
-      sym (none e),
+      e .before .number .ensures,
       (rw (r .reached .ensures, n .nodes .ensures) at (w .write .ensures))
           ∙ values-written (a .image .now) (ok e .0) (a .cycle) (a .values .now) ∙ written-all (a .image .now) (a .cycle) (a .values .now) (none e),
     )

@@ -1,4 +1,4 @@
--- `strict::feeders` meets its contract. The loop's invariant: the channels below c have written their from nodes. Assumes nothing.
+-- `strict::feeders_of` meets its contract. The loop's invariant: the channels below c have written their from nodes. Assumes nothing.
 use mathlib.Core.Path.{_≡_, refl}
 use Prim.Native.Nat.{_≤_, _<_, _-_}
 use native.Mathlib.Numerals.{add-one}
@@ -8,8 +8,8 @@ use Rattle.netlist.specs.Readers.{channelAt}
 use Rattle.netlist.specs.Ports.{portsBelow}
 use Rattle.netlist.specs.PortsLaws.{place-there}
 use Rattle.strict.specs.Decoded.{feedersBelow}
-use Rattle.strict.proofs.feeders.Statement.{statement}
-use Rattle.strict.proofs.feeders.Tie as tie
+use Rattle.strict.proofs.feeders_of.Statement.{statement}
+use Rattle.strict.proofs.feeders_of.Tie as tie
 
 abbrev Inv-loop : tie.InvT-loop
 Inv-loop image channels feeders₀ c₀ feeders c = (c ≤ channels) × (feeders ≡ feedersBelow image c)
@@ -65,8 +65,8 @@ returns c =
     let e : l .loop .c ≡ channels (l .before .before .before .args .image .now) = omega (arith, l .before .channels .ensures) in
     rw e at (l .loop .inv .1)
 
-pub feeders-spec : {M : Type 1} → statement M
-feeders-spec =
+pub feeders-of-spec : {M : Type 1} → statement M
+feeders-of-spec =
     tie.close
     (tie.spec
     Inv-loop

@@ -1,4 +1,4 @@
--- `strict::start` meets its contract. The loop's invariant: the nodes below n are read. Assumes nothing.
+-- `strict::cores_of` meets its contract. The loop's invariant: the nodes below n are read. Assumes nothing.
 use mathlib.Core.Path.{_≡_, refl}
 use Prim.Native.Nat.{_≤_, _<_, _-_}
 use native.Mathlib.Numerals.{add-one}
@@ -12,8 +12,8 @@ use Rattle.laws.specs.Table.{table}
 use Rattle.netlist.specs.Image.{nodes}
 use Rattle.strict.specs.Decoded.{coresBelow}
 use Rattle.strict.specs.DecodedLaws.{cores-turn}
-use Rattle.strict.proofs.start.Statement.{statement}
-use Rattle.strict.proofs.start.Tie as tie
+use Rattle.strict.proofs.cores_of.Statement.{statement}
+use Rattle.strict.proofs.cores_of.Tie as tie
 
 abbrev Inv-loop : tie.InvT-loop
 Inv-loop image nodes cores₀ n₀ cores n = (n ≤ nodes) × (cores ≡ coresBelow image n)
@@ -67,8 +67,8 @@ returns c =
     let e : l .loop .n ≡ nodes img = omega (arith, l .before .nodes .ensures) in
     rw e at (l .loop .inv .1)
 
-pub start-spec : {M : Type 1} → statement M
-start-spec =
+pub cores-of-spec : {M : Type 1} → statement M
+cores-of-spec =
     tie.close
     (tie.spec
     Inv-loop
