@@ -5,10 +5,10 @@ pub mod BelowLaws
 pub mod Cases
 pub mod Range
 pub mod RangeLaws
-pub mod Table
-pub mod TableLaws
 pub mod Lists
 pub mod ListsLaws
+pub mod Table
+pub mod TableLaws
 pub mod Signed
 pub mod SignedLaws
 pub mod Examples

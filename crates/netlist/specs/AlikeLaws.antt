@@ -1,6 +1,6 @@
 -- Images that differ in no byte before their depths have the same nodes on the same wires. Assumes nothing.
 use mathlib.Core.List.{List}
-use mathlib.Core.Path.{_≡_, refl}
+use mathlib.Core.Path.{_≡_}
 use Prim.Native.Nat.{ℕ, _<_, _+_, _*_}
 use native.Mathlib.Omega.{arith}
 use lib.ListN.{getD}
@@ -25,7 +25,3 @@ alike img jmg same =
           let w = 2 + 5 * n + 3 * i in
           (rw (← ns) (at w (omega arith)), rw (← ns) (at (w + 1) (omega arith)), rw (← ns) (at (w + 2) (omega arith)));
     }
-
--- an image is like itself
-pub alike-own : (img : List ℕ) → Alike img img
-alike-own img = record { sizes = (refl, refl); cores = λ n h. (refl, refl); wires = λ c h. (refl, refl, refl) }

@@ -1,4 +1,4 @@
--- The judge's definition, computed: figure 4's image is accepted, and so is a ring with stations; each number has an image.
+-- The definitions, computed: figure 4's image is accepted, and so is a ring with stations; each number has an image.
 use mathlib.Core.List.{List, [], _∷_, _++_}
 use mathlib.Core.Path.{_≡_, refl}
 use Prim.Native.Nat.{ℕ, zero, suc, _+_, _*_}
@@ -7,6 +7,7 @@ use lib.ListN.{set, take, replicate}
 use Rattle.laws.specs.Below.{anyBelow, sumBelow}
 use Rattle.laws.specs.Signed.{signed}
 use Rattle.netlist.specs.Image.{feeds, nodes, channels, kind, parameter, wire, from, to, port, depths, stations, depth, inputs}
+use Rattle.netlist.specs.Ports.{portsBelow}
 use Rattle.netlist.specs.Judge.{judge, badKind, badWire, badPort, fedTwice, notFed, badStations, badDepth}
 
 -- kinds 1 1 6 2 2; parameters 10 100 0 0 0; wires 0-2-0, 1-2-1, 2-3-0, 2-4-0; depths 0/2, 0/2, 0/1, 0/1
@@ -112,3 +113,10 @@ judged =
 parameters : (parameter figure4 0 ≡ pos 10) × (parameter figure4 1 ≡ pos 100) × (parameter ring 1 ≡ negsuc 1)
 unfolding parameter nodes signed
 parameters = (refl, refl, refl)
+
+-- the ports of figure 4's nodes, three places each, where each channel brings its from node: the sum node has 0 and 1, the hold nodes have 2
+ports :
+    take 15 (portsBelow figure4 (from figure4) 64 4) ≡
+    64 ∷ 64 ∷ 64 ∷ 64 ∷ 64 ∷ 64 ∷ 0 ∷ 1 ∷ 64 ∷ 2 ∷ 64 ∷ 64 ∷ 2 ∷ 64 ∷ 64 ∷ []
+unfolding nodes wire from to port portsBelow
+ports = refl

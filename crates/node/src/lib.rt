@@ -1,1 +1,2 @@
-// No code: what the specs say of a node in its netlist.
+// A node in its netlist. There is no code here: the definition that the strict run and the cycle
+// engine share stands under specs/.

@@ -49,6 +49,11 @@ unfolding table pickBelow signed nodes channels kind parameter wire from to port
     strictNext strictCycle strict
 figure4-late = refl
 
+-- one count node, parameter 5, and no channel
+count-three : strict (1 ∷ 0 ∷ 1 ∷ 5 ∷ 0 ∷ 0 ∷ 0 ∷ []) 0 3 ≡ pos 8
+unfolding table pickBelow signed nodes channels kind parameter portValue nextOf wrap exact nextValue strictNext strictCycle strict
+count-three = refl
+
 -- the ring of a hold and a negate node: its 3 and 8 stations do not count, and after four cycles it has come round
 ring-cycles :
     table (strictCycle ring) 5 ≡
@@ -82,9 +87,9 @@ pub record Numbered : Type 0 where
   pub at-14-and-13 : strictNumber figure4 1000001 4 ≡ 14
   pub at-4-and-14-and-13 : strictNumber (set figure4 2 0) 1000001 4 ≡ 4
   pub at-3 : strictNumber (take 46 figure4) 10 5 ≡ 3
-  -- seven places: five are written
-  pub seven : strictWritten ring 1 (pos 1 ∷ pos 2 ∷ pos 3 ∷ pos 4 ∷ []) ≡ negsuc 1 ∷ negsuc 6 ∷ pos 3 ∷ pos 4 ∷ []
-  pub short : strictWritten ring 1 (pos 1 ∷ []) ≡ pos 1 ∷ []
+  -- four places: two are written. One place, and a cycle too late: none is
+  pub four-places : strictWritten ring 1 (pos 1 ∷ pos 2 ∷ pos 3 ∷ pos 4 ∷ []) ≡ negsuc 1 ∷ negsuc 6 ∷ pos 3 ∷ pos 4 ∷ []
+  pub one-place : strictWritten ring 1 (pos 1 ∷ []) ≡ pos 1 ∷ []
   pub late : strictWritten ring 1000001 (pos 1 ∷ pos 2 ∷ pos 3 ∷ []) ≡ pos 1 ∷ pos 2 ∷ pos 3 ∷ []
 
 numbered : Numbered
@@ -100,7 +105,7 @@ numbered =
       at-14-and-13 = refl;
       at-4-and-14-and-13 = refl;
       at-3 = refl;
-      seven = refl;
-      short = refl;
+      four-places = refl;
+      one-place = refl;
       late = refl;
     }
