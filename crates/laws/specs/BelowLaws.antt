@@ -62,7 +62,9 @@ none-iff f n iff = (λ e k h. iff k .0 (any-none f k n e h), λ h. none-any f n 
 
 -- ---- what is picked
 -- a pick is d, or f at a number below n: what holds of these holds of it
-pub pick-one : {A : Type 0} (P : A → Type 0) (test : ℕ → Bool) (f : ℕ → A) (d : A) (n : ℕ) → P d → ((k : ℕ) → k < n → P (f k)) → P (pickBelow test f d n)
+pub pick-one :
+    {A : Type 0} (P : A → Type 0) (test : ℕ → Bool) (f : ℕ → A) (d : A) (n : ℕ)
+    → P d → ((k : ℕ) → k < n → P (f k)) → P (pickBelow test f d n)
 unfolding pickBelow
 pick-one P test f d zero z h = z
 pick-one {A = A} P test f d (suc n) z h =

@@ -6,7 +6,8 @@ use mathlib.Core.Path.{_≡_, refl, ap, sym, _∙_}
 use Prim.Native.Nat.{ℕ, zero, suc, _+_, _-_, _<_, _≤_, min}
 use native.Mathlib.Numerals.{add-one}
 use native.Mathlib.Omega.{arith}
-use lib.ListN.{length, getD, take, drop, set, replicate, length-append, length-take, drop-of-length-le, List·getD-append, List·getD-eq-default, length-replicate, replicate-append-replicate}
+use lib.ListN.{length, getD, take, drop, set, replicate, length-append, length-take, drop-of-length-le}
+use lib.ListN.{List·getD-append, List·getD-eq-default, length-replicate, replicate-append-replicate}
 use lib.Seq.{take-all, take-length, drop-length, take-append-seam, set-append-seam, append-snoc, getD-append-add, getD-take, ext-getD}
 use Rattle.laws.specs.Cases.{lt-or-ge}
 use Rattle.laws.specs.Lists.{holds, oneIf, dropIf, padded, Stored}

@@ -58,7 +58,8 @@ loop-again c =
     let img = l .before .before .before .args .image .now in
     let f : SFits w32 (c .before .core-at .result .parameter) = search needs in
     let h : l .loop .n < 64 = omega (arith, few (l .before)) in
-    (omega arith, rw (toZ-ofZ f, add-one) (cores-turn img (l .loop .n) h (l .loop .cores) (l .loop .inv .1) (c .before .core-at .result) (c .before .core-at .ensures)))
+    let r = c .before .core-at in
+    (omega arith, rw (toZ-ofZ f, add-one) (cores-turn img (l .loop .n) h (l .loop .cores) (l .loop .inv .1) (r .result) (r .ensures)))
 
 returns : tie.Need-returns Inv-loop μ-loop
 returns c =
