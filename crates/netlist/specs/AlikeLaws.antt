@@ -7,9 +7,9 @@ use lib.ListN.{getD}
 use Rattle.netlist.specs.Image.{nodes, channels, kind, parameter, wire, from, to, port, depths}
 use Rattle.netlist.specs.Alike.{SameButDepths, Alike}
 
-pub alike : (img jmg : List ℕ) → SameButDepths img jmg → Alike img jmg
+pub bytes-alike : (img jmg : List ℕ) → SameButDepths img jmg → Alike img jmg
 unfolding nodes channels kind parameter wire from to port depths
-alike img jmg same =
+bytes-alike img jmg same =
     let n = nodes img in
     let c = channels img in
     let at : (k : ℕ) → k < 2 + 5 * n + 3 * c → getD img k 0 ≡ getD jmg k 0 = λ k h. same k (omega arith) in

@@ -11,7 +11,7 @@ use Rattle.netlist.specs.declared.passes.Found.{Found}
 use Rattle.netlist.specs.declared.passes.Fed.{Fed}
 use Rattle.netlist.specs.Image.{kind, to, port, stations, inputs}
 use Rattle.netlist.specs.Judge.{badWire, badPort, badStations, badDepth}
-use Rattle.netlist.specs.Ports.{place, portsBelow}
+use Rattle.netlist.specs.Ports.{portPlace, portsBelow}
 
 -- numbers 5, 6, 9, 10 and the sum for 11, over the channels below c
 unfoldable pub foundBelow : List ℕ → ℕ → Found
@@ -44,8 +44,8 @@ marksBelow img c = portsBelow img (λ k. true) false c
 -- these, and whether a channel below c found its port marked
 unfoldable pub fedBelow : List ℕ → ℕ → Fed
 fedBelow img c =
-    record { twice = anyBelow (λ k. getD (marksBelow img k) (place (to img k) (port img k)) false) c; ports = marksBelow img c }
+    record { twice = anyBelow (λ k. getD (marksBelow img k) (portPlace (to img k) (port img k)) false) c; ports = marksBelow img c }
 
 -- a port of node n that is not fed
 unfoldable pub misses : List ℕ → List Bool → ℕ → Bool
-misses img ports n = anyBelow (λ p. not (getD ports (place n p) false)) (inputs (kind img n))
+misses img ports n = anyBelow (λ p. not (getD ports (portPlace n p) false)) (inputs (kind img n))

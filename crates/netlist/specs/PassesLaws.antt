@@ -12,7 +12,7 @@ use Rattle.netlist.specs.ImageLaws.{inputs-few}
 use Rattle.netlist.specs.Judge.{badWire, badPort, fedTwice, notFed}
 use Rattle.netlist.specs.JudgeLaws.{wire-ok, port-ok}
 use Rattle.netlist.specs.Passes.{marksBelow, fedBelow, misses}
-use Rattle.netlist.specs.Ports.{place, Wired}
+use Rattle.netlist.specs.Ports.{portPlace, Wired}
 use Rattle.netlist.specs.PortsLaws.{fewer, ports-at}
 
 module _ (img : List ℕ) where
@@ -25,7 +25,7 @@ module _ (img : List ℕ) where
       }
 
   -- a place is marked exactly if a channel feeds its port
-  marked : (c : ℕ) → Wired img c → (n p : ℕ) → n < 64 → p < 3 → getD (marksBelow img c) (place n p) false ≡ anyBelow (feeds img n p) c
+  marked : (c : ℕ) → Wired img c → (n p : ℕ) → n < 64 → p < 3 → getD (marksBelow img c) (portPlace n p) false ≡ anyBelow (feeds img n p) c
   unfolding marksBelow
   marked c w n p h l = ports-at img (λ k. true) false c w n p h l ∙ pick-any (feeds img n p) c
 
@@ -33,7 +33,7 @@ module _ (img : List ℕ) where
   pub twice-is : (c : ℕ) → Wired img c → fedBelow img c .twice ≡ anyBelow (fedTwice img) c
   unfolding fedBelow fedTwice
   twice-is c w =
-      any-same (λ k. getD (marksBelow img k) (place (to img k) (port img k)) false) (fedTwice img) c λ k h.
+      any-same (λ k. getD (marksBelow img k) (portPlace (to img k) (port img k)) false) (fedTwice img) c λ k h.
       marked k (fewer img k c (omega arith) w) (to img k) (port img k) (w .node k h) (w .input k h)
 
   -- number 8
@@ -43,5 +43,5 @@ module _ (img : List ℕ) where
   misses-is few w =
       let c = channels img in
       any-same (misses img (marksBelow img c)) (notFed img) (nodes img) λ n h.
-      any-same (λ p. not (getD (marksBelow img c) (place n p) false)) (λ p. not (anyBelow (feeds img n p) c)) (inputs (kind img n)) λ p l.
+      any-same (λ p. not (getD (marksBelow img c) (portPlace n p) false)) (λ p. not (anyBelow (feeds img n p) c)) (inputs (kind img n)) λ p l.
       ap not (marked c w n p (omega arith) (omega (arith, inputs-few (kind img n))))

@@ -5,8 +5,8 @@ use lib.ListN.{set, replicate}
 use Rattle.netlist.specs.Image.{to, port}
 
 -- the place of port p of node n among 3 ports for each of 64 nodes
-abbrev pub place : ℕ → ℕ → ℕ
-place n p = 3 * n + p
+abbrev pub portPlace : ℕ → ℕ → ℕ
+portPlace n p = 3 * n + p
 
 -- the channels below c lead to ports that have a place
 pub record Wired (img : List ℕ) (c : ℕ) : Type 0 where
@@ -16,4 +16,4 @@ pub record Wired (img : List ℕ) (c : ℕ) : Type 0 where
 -- each of the channels below c has written what it brings, channel k `brings k`, to the place of its port; d stands where none has
 unfoldable pub portsBelow : {A : Type 0} → List ℕ → (ℕ → A) → A → ℕ → List A
 portsBelow img brings d zero = replicate 192 d
-portsBelow img brings d (suc c) = set (portsBelow img brings d c) (place (to img c) (port img c)) (brings c)
+portsBelow img brings d (suc c) = set (portsBelow img brings d c) (portPlace (to img c) (port img c)) (brings c)

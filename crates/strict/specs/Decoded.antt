@@ -21,8 +21,8 @@ unfoldable pub feedersBelow : List ℕ → ℕ → List ℕ
 feedersBelow img c = portsBelow img (from img) 64 c
 
 -- each of the 192 entries names one of 65 places
-abbrev pub Within : List ℕ → Type 0
-Within feeders = (at : ℕ) → at < 192 → getD feeders at 0 < 65
+abbrev pub NamesPlaces : List ℕ → Type 0
+NamesPlaces feeders = (at : ℕ) → at < 192 → getD feeders at 0 < 65
 
 -- the value on the port at a place
 unfoldable pub portOn : List ℤ → List ℕ → ℕ → ℤ

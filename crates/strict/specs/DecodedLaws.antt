@@ -16,13 +16,13 @@ use Rattle.netlist.specs.declared.Core.{Core}
 use Rattle.netlist.specs.Readers.{coreAt}
 use Rattle.netlist.specs.Accepted.{Accepted}
 use Rattle.netlist.specs.AcceptedLaws.{accepted-wired}
-use Rattle.netlist.specs.Ports.{place, portsBelow}
+use Rattle.netlist.specs.Ports.{portPlace, portsBelow}
 use Rattle.netlist.specs.PortsLaws.{ports-length, ports-at}
 use Rattle.node.specs.Node.{portValue, nextOf}
 use Rattle.strict.specs.Strict.{strictNext, strictCycle}
 use Rattle.strict.specs.StrictLaws.{length-cycle}
 use Rattle.strict.specs.declared.Cores.{Cores}
-use Rattle.strict.specs.Decoded.{coresBelow, feedersBelow, Within, portOn, nextOn, valueAfter, valuesAfter, valuesAt}
+use Rattle.strict.specs.Decoded.{coresBelow, feedersBelow, NamesPlaces, portOn, nextOn, valueAfter, valuesAfter, valuesAt}
 
 -- one more node is read
 pub cores-turn :
@@ -45,17 +45,17 @@ module _ (img : List ℕ) (a : Accepted img) where
   values-first = refl
 
   -- the entry at a port's place
-  feeder-at : (n p : ℕ) → n < 64 → p < 3 → getD feeders (place n p) 0 ≡ pickBelow (feeds img n p) (from img) 64 (channels img)
+  feeder-at : (n p : ℕ) → n < 64 → p < 3 → getD feeders (portPlace n p) 0 ≡ pickBelow (feeds img n p) (from img) 64 (channels img)
   unfolding feedersBelow
   feeder-at n p h l =
       let c = channels img in
-      let k : place n p < length (portsBelow img (from img) 64 c) = rw ports-length (omega arith) in
-      getD-any feeders (place n p) 0 64 k ∙ ports-at img (from img) 64 c (accepted-wired img a) n p h l
+      let k : portPlace n p < length (portsBelow img (from img) 64 c) = rw ports-length (omega arith) in
+      getD-any feeders (portPlace n p) 0 64 k ∙ ports-at img (from img) 64 c (accepted-wired img a) n p h l
 
   -- is one of 65 places
-  pub feeders-within : Within feeders
+  pub feeders-within : NamesPlaces feeders
   feeders-within k h =
-      let e : k ≡ place (k / 3) (k % 3) = omega arith in
+      let e : k ≡ portPlace (k / 3) (k % 3) = omega arith in
       rw e
       (rw (feeder-at (k / 3) (k % 3) (omega arith) (omega arith))
       (pick-one (λ n. n < 65) (feeds img (k / 3) (k % 3)) (from img) 64 (channels img) (omega arith)
@@ -72,7 +72,7 @@ module _ (img : List ℕ) (a : Accepted img) where
   -- the value at a port's feeder is what stands on the port
   port-on :
       (t n p : ℕ) → n < 64 → p < 3
-      → portOn (valuesAt img t .at) feeders (place n p) ≡ portValue img (λ c. getD (strictCycle img t) (from img c) (pos 0)) n p
+      → portOn (valuesAt img t .at) feeders (portPlace n p) ≡ portValue img (λ c. getD (strictCycle img t) (from img c) (pos 0)) n p
   unfolding portOn portValue
   port-on t n p h l =
       let vs = strictCycle img t in
@@ -84,7 +84,7 @@ module _ (img : List ℕ) (a : Accepted img) where
   value-after t n h =
       let l : n < 64 = omega (arith, a .few-nodes) in
       let values = valuesAt img t .at in
-      let first : portOn values feeders (3 * n) ≡ portOn values feeders (place n 0) = rw add-zero in
+      let first : portOn values feeders (3 * n) ≡ portOn values feeders (portPlace n 0) = rw add-zero in
       rw (kind-at n h, value-at t n, first, port-on t n 0 l (omega arith), port-on t n 1 l (omega arith), port-on t n 2 l (omega arith))
 
   -- so all values after a cycle are the next cycle's

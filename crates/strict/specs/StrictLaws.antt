@@ -7,7 +7,7 @@ use lib.ListN.{length, getD}
 use Rattle.laws.specs.TableLaws.{length-table, table-at, table-same}
 use Rattle.netlist.specs.Image.{nodes, parameter, from}
 use Rattle.netlist.specs.Alike.{SameButDepths, Alike}
-use Rattle.netlist.specs.AlikeLaws.{alike}
+use Rattle.netlist.specs.AlikeLaws.{bytes-alike}
 use Rattle.node.specs.Node.{nextOf}
 use Rattle.node.specs.NodeLaws.{next-same}
 use Rattle.strict.specs.Strict.{strictNext, strictCycle, strict}
@@ -38,4 +38,4 @@ cycle-alike img jmg a (suc t) =
     (λ c l e. ap (λ k. getD vs k (pos 0)) (a .wires c l .0))))
 
 pub depths-free : (img jmg : List ℕ) → SameButDepths img jmg → (t : ℕ) → strictCycle img t ≡ strictCycle jmg t
-depths-free img jmg same = cycle-alike img jmg (alike img jmg same)
+depths-free img jmg same = cycle-alike img jmg (bytes-alike img jmg same)

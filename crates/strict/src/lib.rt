@@ -1,4 +1,4 @@
-// The strict reference run: the values that the nodes have where every wire takes no time.
+// The strict reference run: the values that the nodes have where no wire is too long for one clock.
 ghost use mathlib.Core.Path.{_≡_};
 ghost use Prim.Native.Nat.{_<_, _≤_};
 ghost use lib.IntN.{pos};
@@ -8,7 +8,7 @@ ghost use Rattle.netlist.specs.Image.{nodes, channels};
 ghost use Rattle.netlist.specs.Accepted.{Accepted};
 ghost use Rattle.netlist.specs.Ports.{Wired};
 ghost use Rattle.strict.specs.Answer.{strictNumber, strictWritten};
-ghost use Rattle.strict.specs.Decoded.{coresBelow, feedersBelow, Within, portOn, nextOn, valuesAfter, valuesAt};
+ghost use Rattle.strict.specs.Decoded.{coresBelow, feedersBelow, NamesPlaces, portOn, nextOn, valuesAfter, valuesAt};
 
 // What is decoded of the nodes: each one's kind and parameter.
 struct Cores {
@@ -64,7 +64,7 @@ fn feeders_of(image: &[u8]) -> [u8; 192]
 
 // The value on the port at a place.
 fn brought(values: &[i32; 65], feeders: &[u8; 192], at: usize) -> i32
-    requires { ⌜ (at < 192) × Within (now feeders) ⌝ }
+    requires { ⌜ (at < 192) × NamesPlaces (now feeders) ⌝ }
     ensures { λ r. ⌜ r ≡ portOn (now (values .entry)) (now (feeders .entry)) at ⌝ }
 {
     let feeder = feeders[at] as usize;
@@ -73,7 +73,7 @@ fn brought(values: &[i32; 65], feeders: &[u8; 192], at: usize) -> i32
 
 // The next value of node n, whose kind and present value are given.
 fn next_on(kind: u8, s: i32, values: &[i32; 65], feeders: &[u8; 192], n: usize) -> i32
-    requires { ⌜ (n < 64) × Within (now feeders) ⌝ }
+    requires { ⌜ (n < 64) × NamesPlaces (now feeders) ⌝ }
     ensures { λ r. ⌜ r ≡ nextOn kind s (now (values .entry)) (now (feeders .entry)) n ⌝ }
 {
     let at = 3 * n;
@@ -86,7 +86,7 @@ fn next_on(kind: u8, s: i32, values: &[i32; 65], feeders: &[u8; 192], n: usize) 
 
 // The values after a cycle, each of the first `nodes` from the values before it.
 fn after(kinds: &[u8; 64], feeders: &[u8; 192], nodes: usize, old: Values) -> Values
-    requires { ⌜ (nodes ≤ 64) × Within (now feeders) ⌝ }
+    requires { ⌜ (nodes ≤ 64) × NamesPlaces (now feeders) ⌝ }
     ensures { λ r. ⌜ r ≡ valuesAfter (now (kinds .entry)) (now (feeders .entry)) nodes old ⌝ }
 {
     let values = old.at;

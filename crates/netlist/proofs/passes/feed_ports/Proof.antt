@@ -6,7 +6,7 @@ use native.Mathlib.Omega.{arith}
 use Rattle.laws.specs.Below.{anyBelow}
 use Rattle.netlist.specs.Image.{channels, to, port}
 use Rattle.netlist.specs.Passes.{marksBelow, fedBelow}
-use Rattle.netlist.specs.Ports.{place, portsBelow}
+use Rattle.netlist.specs.Ports.{portPlace, portsBelow}
 use Rattle.netlist.specs.PortsLaws.{place-there}
 use Rattle.netlist.specs.Readers.{channelAt}
 use Rattle.netlist.proofs.passes.feed_ports.Statement.{statement}
@@ -22,7 +22,7 @@ abbrev μ-loop : tie.MeasureT-loop
 at-port : (c : tie.After-wide2 Inv-loop μ-loop) →
     let l = c .before .before .before .before in
     let img = l .before .before .before .args .image .now in
-    3 * c .before .wide .result + c .wide2 .result ≡ place (to img (l .loop .i)) (port img (l .loop .i))
+    3 * c .before .wide .result + c .wide2 .result ≡ portPlace (to img (l .loop .i)) (port img (l .loop .i))
 unfolding channelAt
 at-port c = rw (c .wide2 .ensures, c .before .wide .ensures, c .before .before .channel-at .ensures)
 
