@@ -1,5 +1,6 @@
 -- Definitions and laws that say nothing of the bench. A file NAME defines, and NAMELaws proves what callers use instead of the definition's text.
 pub mod Choice
+pub mod ChoiceLaws
 pub mod Below
 pub mod BelowLaws
 pub mod Cases

@@ -1,14 +1,13 @@
 -- Acceptance is that the judge's eleven tests have all failed. Assumes nothing.
-use mathlib.Core.Bool.{Bool, true, false, not, _||_}
+use mathlib.Core.Bool.{false, not, _||_}
 use mathlib.Core.List.{List}
-use mathlib.Core.Path.{_≡_, refl}
-use Prim.Native.Nat.{ℕ, suc, _+_, _*_}
-use native.Mathlib.Omega.{arith}
+use mathlib.Core.Path.{_≡_}
+use Prim.Native.Nat.{ℕ, _+_, _*_}
 use lib.Dec.{eqb, ltb}
 use lib.ListN.{length}
 use Rattle.laws.specs.Below.{anyBelow, sumBelow}
-use Rattle.laws.specs.Choice.{_if_else_}
 use Rattle.laws.specs.Range.{outside}
+use Rattle.laws.specs.ChoiceLaws.{past}
 use Rattle.netlist.specs.Image.{nodes, channels, stations}
 use Rattle.netlist.specs.Judge.{judge, badKind, badWire, badPort, fedTwice, notFed, badStations, badDepth}
 
@@ -29,11 +28,6 @@ pub record Clear (img : List ℕ) : Type 0 where
   pub no-9 : anyBelow (badStations img) (channels img) ≡ false
   pub no-10 : anyBelow (badDepth img) (channels img) ≡ false
   pub no-11 : ltb 256 (sumBelow (stations img) (channels img)) ≡ false
-
--- the answer 0 is none of the numbers
-past : (k later : ℕ) (test : Bool) → (suc k if test else later) ≡ 0 → (test ≡ false) × (later ≡ 0)
-past k later true e = absurd (omega arith)
-past k later false e = (refl, e)
 
 pub clear : (img : List ℕ) → judge img ≡ 0 → Clear img
 unfolding judge

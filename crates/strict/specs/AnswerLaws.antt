@@ -1,15 +1,12 @@
 -- What each way out of the strict run answers. Assumes nothing.
-use mathlib.Core.Bool.{true, false}
 use mathlib.Core.List.{List, _++_}
-use mathlib.Core.Logic.{⊎-elim}
 use mathlib.Core.Path.{_≡_}
 use Prim.Native.Nat.{ℕ, _<_, _≤_}
-use native.Mathlib.Omega.{arith}
-use borrow.Author.Tests.{eqb-true, ne-eqb, eq-eqb, lt-ltb, le-ltb}
-use lib.Dec.{eqb}
+use borrow.Author.Tests.{ltb-false, ne-eqb, eq-eqb, lt-ltb, le-ltb}
+use lib.Dec.{ltb}
 use lib.IntN.{ℤ}
 use lib.ListN.{length, drop}
-use Rattle.laws.specs.Cases.{true-or-false, lt-or-ge}
+use Rattle.laws.specs.ChoiceLaws.{past, past-number}
 use Rattle.netlist.specs.Image.{nodes}
 use Rattle.netlist.specs.Judge.{judge}
 use Rattle.strict.specs.Strict.{strictCycle}
@@ -37,21 +34,10 @@ module _ (img : List ℕ) (cycle room : ℕ) where
   pub number-ok : strictNumber img cycle room ≡ 0 → (judge img ≡ 0) × (nodes img ≤ room)
   unfolding strictNumber
   number-ok e =
-      let j : judge img ≡ 0 =
-      ⊎-elim
-      (λ (t : eqb (judge img) 0 ≡ true). eqb-true (judge img) 0 t)
-      (λ (f : eqb (judge img) 0 ≡ false). rw f at e)
-      (true-or-false (eqb (judge img) 0)) in (
-        j,
-        ⊎-elim
-            (λ (l : room < nodes img).
-            ⊎-elim
-            (λ (h : 1000000 < cycle). omega (arith, e, number-14 j h))
-            (λ (h : cycle ≤ 1000000). omega (arith, e, number-13 j h l))
-            (lt-or-ge 1000000 cycle))
-            (λ (l : nodes img ≤ room). l)
-            (lt-or-ge room (nodes img)),
-      )
+      let j = past-number (judge img) _ e in
+      let late = past 13 _ (ltb 1000000 cycle) (j .1) in
+      let short = past 12 _ (ltb room (nodes img)) (late .1) in
+      (j .0, ltb-false room (nodes img) (short .0))
 
 -- and what it has written
 module _ (img : List ℕ) (cycle : ℕ) (old : List ℤ) where
