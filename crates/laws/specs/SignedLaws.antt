@@ -1,20 +1,20 @@
 -- Laws of signed numbers in words of 32 and 64 bits: what proofs say of `toZ w (ofZ w z)`. Assumes nothing.
-use mathlib.Core.Path.{_≡_, sym, _∙_}
+use mathlib.Core.Path.{_≡_, refl, sym, ap, _∙_}
 use mathlib.Core.Bool.{true, false, true≢false}
 use mathlib.Core.Logic.{⊎-elim}
 use Prim.Native.Nat.{ℕ, suc, _-_, _^_, _<_, _≤_}
 use native.Mathlib.Nat.{zero-add}
 use native.Mathlib.Omega.{arith}
 use borrow.Author.Needs.{needs}
-use borrow.Author.Tests.{lt-ltb, le-ltb, ltb-true}
-use lib.Dec.{T}
+use borrow.Author.Tests.{lt-ltb, le-ltb, ltb-true, ne-eqb, eqb-true}
+use lib.Dec.{T, eqb}
 use lib.IntN.{ℤ, pos, negsuc, subℕ, _-ℤ_, natAbs}
 use lib.Signed.{mag, ltZ, nonNeg}
 use mir.Syntax.{w32, w64}
-use mir.Val.{SFits}
+use mir.Val.{SFits, ofZ}
 use mir.Facts.{sfits-widen}
 use Rattle.laws.specs.Cases.{lt-or-ge}
-use Rattle.laws.specs.Signed.{signed}
+use Rattle.laws.specs.Signed.{signed, isZero}
 
 -- a number of 32 bits is one of 64
 pub widen : {z : ℤ} → SFits w32 z → SFits w64 z
@@ -61,3 +61,12 @@ signed-fits n l =
     (λ (h : n < 2 ^ 31). rw (signed-low n h) (told (pos n) h))
     (λ (h : 2 ^ 31 ≤ n). rw (signed-high n h) (told (negsuc (2 ^ 32 - suc n)) (let k : 2 ^ 32 - suc n < 2 ^ 31 = omega arith in k)))
     (lt-or-ge n (2 ^ 31))
+
+-- `t == 0` in the code is a test of the bits
+pub zero-bits : (z : ℤ) → SFits w32 z → eqb (ofZ w32 z) 0 ≡ isZero z
+zero-bits (pos n) f = refl
+zero-bits (negsuc n) f = let h : n < 2 ^ 31 = f .sfits in ne-eqb (2 ^ 32 - suc n) 0 (λ e. omega arith)
+
+pub zero-is : (z : ℤ) → isZero z ≡ true → z ≡ pos 0
+zero-is (pos n) e = ap pos (eqb-true n 0 e)
+zero-is (negsuc n) e = absurd (true≢false (sym e))
