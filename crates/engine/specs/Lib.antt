@@ -1,7 +1,10 @@
 -- The cycle engine. A file NAME defines, and NAMELaws proves what others use instead of the definition's text.
 pub mod State
+pub mod StateLaws
 pub mod Fresh
 pub mod Cycle
+pub mod CycleLaws
 pub mod Fits
+pub mod Fitting
 pub mod Answer
 pub mod Examples

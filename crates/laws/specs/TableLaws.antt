@@ -77,6 +77,11 @@ module _ {A : Type 0} where
   unfolding table
   padded-table f n m d h = rw length-table at (padded-set m d (table f n) (f n) (rw length-table h))
 
+  -- an entry of a table that is padded, whatever is read past the end
+  pub padded-at : (f : ℕ → A) (n m i : ℕ) (d e : A) → i < n → getD (padded m d (table f n)) i e ≡ f i
+  unfolding padded
+  padded-at f n m i d e h = List·getD-append (table f n) (replicate (m - length (table f n)) d) e i (rw length-table h) ∙ table-at f n i e h
+
 -- a list is the table of its own elements
 pub table-own : {A : Type 0} (l : List A) (d : A) → l ≡ table (λ i. getD l i d) (length l)
 table-own {A = A} l d =

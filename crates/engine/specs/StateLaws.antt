@@ -1,0 +1,68 @@
+-- What stands in a state that `stateOf` wrote. Assumes nothing.
+use mathlib.Core.Bool.{Bool, true, false}
+use mathlib.Core.List.{List, []}
+use mathlib.Core.Path.{_≡_, refl, sym, ap, ap₂, _∙_}
+use Prim.Native.Nat.{ℕ, _+_, _*_, _/_, _%_, _<_, _≤_}
+use native.Mathlib.Nat.{add-zero, mul-add-div, mul-add-mod-self-left, div-eq-of-lt, mod-eq-of-lt}
+use native.Mathlib.Omega.{arith}
+use lib.Dec.{eqb}
+use lib.IntN.{ℤ}
+use lib.ListN.{length, getD}
+use Rattle.laws.specs.Choice.{_if_else_}
+use Rattle.laws.specs.Lists.{holds, oneIf}
+use Rattle.laws.specs.Table.{table}
+use Rattle.laws.specs.TableLaws.{padded-at, table-same, table-own}
+use Rattle.netlist.specs.Image.{nodes, channels, from, stations}
+use Rattle.relay.specs.declared.Station.{Station}
+use Rattle.relay.specs.Station.{held, stationOf}
+use Rattle.relay.specs.StationLaws.{held-of}
+use Rattle.relay.specs.RowCycle.{noStation}
+use Rattle.shell.specs.Queue.{waiting, queueOf}
+use Rattle.shell.specs.QueueLaws.{waiting-of}
+use Rattle.shell.specs.Channel.{Channel}
+use Rattle.engine.specs.declared.Node.{Node}
+use Rattle.engine.specs.State.{noNode, noQueue, nodeAt, markAt, stationAt, queueAt, channelIn, stateOf}
+
+-- the channel and the station of a place
+pub place-channel : (c j : ℕ) → j < 8 → (8 * c + j) / 8 ≡ c
+place-channel c j h = mul-add-div (omega arith) c j ∙ ap (λ (k : ℕ). c + k) (div-eq-of-lt h) ∙ add-zero c
+
+pub place-station : (c j : ℕ) → j < 8 → (8 * c + j) % 8 ≡ j
+place-station c j h = mul-add-mod-self-left 8 c j ∙ mod-eq-of-lt h
+
+mark-test : (b : Bool) → eqb (1 if b else 0) 1 ≡ b
+mark-test true = refl
+mark-test false = refl
+
+module _ (img : List ℕ) (t : ℕ) (node : ℕ → Node) (channel : ℕ → Channel) where
+  pub node-of : (n : ℕ) → n < nodes img → nodeAt (stateOf img t node channel) n ≡ node n
+  unfolding nodeAt stateOf
+  node-of n h = padded-at node (nodes img) 64 n noNode noNode h
+
+  module _ (c : ℕ) (h : c < channels img) where
+    pub mark-of : markAt (stateOf img t node channel) c ≡ (1 if holds (channel c .source) else 0)
+    unfolding markAt stateOf
+    mark-of = padded-at (λ k. 1 if holds (channel k .source) else 0) (channels img) 96 c 0 0 h
+
+    pub queue-of : queueAt (stateOf img t node channel) c ≡ queueOf (channel c .queue)
+    unfolding queueAt stateOf
+    queue-of = padded-at (λ k. queueOf (channel k .queue)) (channels img) 96 c (queueOf []) noQueue h
+
+    pub station-of : (j : ℕ) → j < 8 → stationAt (stateOf img t node channel) c j ≡ stationOf (getD (channel c .row) j [])
+    unfolding stationAt stateOf
+    station-of j l =
+        padded-at (λ i. stationOf (getD (channel (i / 8) .row) (i % 8) [])) (8 * channels img) 768 (8 * c + j) (stationOf []) noStation (omega arith)
+        ∙ ap₂ {C = Station} (λ (a b : ℕ). stationOf (getD (channel a .row) b [])) (place-channel c j l) (place-station c j l)
+
+    -- the channel that was written, if its row has the image's stations and its source shows the node's value
+    pub channel-of :
+        from img c < nodes img → stations img c ≤ 8 → length (channel c .row) ≡ stations img c
+        → channel c .source ≡ oneIf (holds (channel c .source)) (node (from img c) .value)
+        → channelIn img (stateOf img t node channel) c ≡ channel c
+    unfolding channelIn
+    channel-of wired short long same =
+        let row : table (λ j. held (stationAt (stateOf img t node channel) c j)) (stations img c) ≡ channel c .row =
+        table-same (λ j. held (stationAt (stateOf img t node channel) c j)) (λ j. getD (channel c .row) j []) (stations img c)
+        (λ j l. ap held (station-of j (omega arith)) ∙ held-of (getD (channel c .row) j []))
+        ∙ ap (table (λ j. getD (channel c .row) j [])) (sym long) ∙ sym (table-own (channel c .row) []) in
+        rw (mark-of, mark-test, ap (λ (x : Node). x .value) (node-of (from img c) wired), ← same, row, queue-of, waiting-of)
