@@ -1,6 +1,6 @@
 -- Laws of a cycle: what each node and each channel is after it, and what firing asks. Assumes nothing.
 use mathlib.Core.Bool.{Bool, true, false, not, _&&_}
-use mathlib.Core.List.{List, [], _∷_, _++_}
+use mathlib.Core.List.{List, _++_}
 use mathlib.Core.Path.{_≡_, refl, sym, ap, _∙_}
 use Prim.Native.Nat.{ℕ, suc, _+_, _<_, _≤_}
 use native.Mathlib.Omega.{arith}
@@ -17,10 +17,9 @@ use Rattle.laws.specs.TableLaws.{length-table}
 use Rattle.netlist.specs.Image.{nodes, channels, from, to, stations, depth}
 use Rattle.netlist.specs.Accepted.{Accepted}
 use Rattle.node.specs.Node.{nextOf}
-use Rattle.relay.specs.Link.{staying}
 use Rattle.relay.specs.RowLaws.{length-after}
-use Rattle.shell.specs.Channel.{Channel, tokens, stopBelow, stopAbove, channelAfter}
-use Rattle.shell.specs.ChannelLaws.{channel-fifo}
+use Rattle.shell.specs.Channel.{tokens, pendingAfter, stopBelow, stopAbove, channelAfter}
+use Rattle.shell.specs.ChannelLaws.{channel-fifo, source-after}
 use Rattle.engine.specs.declared.Node.{Node}
 use Rattle.engine.specs.declared.State.{State}
 use Rattle.engine.specs.State.{nodeAt, valueAt, firingsAt, markAt, channelIn}
@@ -31,39 +30,44 @@ pub length-row : (img : List ℕ) (s : State) (c : ℕ) → length (channelIn im
 unfolding channelIn
 length-row img s c = length-table _ (stations img c)
 
--- what stays of a pending token is the token, or nothing
-stays : (p stop : Bool) (v : ℤ) → staying (oneIf p v) stop ≡ oneIf (holds (staying (oneIf p v) stop)) v
-stays true true v = refl
-stays true false v = refl
-stays false true v = refl
-stays false false v = refl
+-- ---- for laws
+pub holds-one : {A : Type 0} (b : Bool) (x : A) → holds (oneIf b x) ≡ b
+holds-one true x = refl
+holds-one false x = refl
 
--- the source after a cycle shows the node's value, new where it fired
-shows : (fired p stop : Bool) (new old : Node) → let node = new if fired else old in
-    let source = (node .value ∷ []) if fired else staying (oneIf p (old .value)) stop in
-    source ≡ oneIf (holds source) (node .value)
-shows true p stop new old = refl
-shows false p stop new old = stays p stop (old .value)
+-- a choice of records, by field
+kept-value : (b : Bool) (new old : Node) → let node = new if b else old in (node .value if b else old .value) ≡ node .value
+kept-value true new old = refl
+kept-value false new old = refl
+
+module _ (img : List ℕ) (w : ℕ) (s : State) where
+  pub length-next : (c : ℕ) → length (channelNext img w s c .row) ≡ stations img c
+  unfolding channelNext channelAfter
+  length-next c = length-after (channelIn img s c .source) (channelIn img s c .row) (stopBelow (depth img c) (channelIn img s c)) ∙ length-row img s c
+
+  -- its source shows the node's value, while that is pending
+  pub source-next :
+      (c : ℕ) → channelNext img w s c .source ≡
+      oneIf (pendingAfter (eqb (markAt s c) 1) (stopAbove (depth img c) (channelIn img s c)) (fires img w s (from img c)))
+      (nodeAfter img w s (from img c) .value)
+  unfolding channelNext channelAfter nodeAfter channelIn
+  source-next c =
+      let n = from img c in
+      let b = fires img w s n in
+      sym (source-after (eqb (markAt s c) 1) (stopAbove (depth img c) (channelIn img s c)) b (valueAt s n) (nodeAfter img w s n .value))
+      ∙ ap (oneIf (pendingAfter (eqb (markAt s c) 1) (stopAbove (depth img c) (channelIn img s c)) b)) (kept-value b _ (nodeAt s n))
 
 module _ (img : List ℕ) (a : Accepted img) (w : ℕ) (s : State) where
   pub node-next : (n : ℕ) → n < nodes img → nodeAt (stateAfter img w s) n ≡ nodeAfter img w s n
   unfolding stateAfter
   node-next n h = node-of img (suc (s .cycles)) (nodeAfter img w s) (channelNext img w s) n h
 
-  length-next : (c : ℕ) → length (channelNext img w s c .row) ≡ stations img c
-  unfolding channelNext channelAfter
-  length-next c = length-after (channelIn img s c .source) (channelIn img s c .row) (stopBelow (depth img c) (channelIn img s c)) ∙ length-row img s c
-
-  source-next : (c : ℕ) → channelNext img w s c .source ≡ oneIf (holds (channelNext img w s c .source)) (nodeAfter img w s (from img c) .value)
-  unfolding channelNext channelAfter nodeAfter channelIn
-  source-next c = shows (fires img w s (from img c)) (eqb (markAt s c) 1) (stopAbove (depth img c) (channelIn img s c)) _ (nodeAt s (from img c))
-
   -- a channel after a cycle is that channel after a cycle
   pub channel-next : (c : ℕ) → c < channels img → channelIn img (stateAfter img w s) c ≡ channelNext img w s c
   unfolding stateAfter
   channel-next c h =
       channel-of img (suc (s .cycles)) (nodeAfter img w s) (channelNext img w s) c h (a .wires c h .0) (a .rows c h)
-      (length-next c) (source-next c)
+      (length-next img w s c) (rw (source-next img w s c, holds-one))
 
   -- ---- a node's value and firings
   pub value-next :

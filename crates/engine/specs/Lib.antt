@@ -4,6 +4,8 @@ pub mod StateLaws
 pub mod Fresh
 pub mod Cycle
 pub mod CycleLaws
+pub mod Parts
+pub mod PartsLaws
 pub mod Fits
 pub mod Fitting
 pub mod Answer
