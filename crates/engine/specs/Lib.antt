@@ -6,5 +6,7 @@ pub mod Cycle
 pub mod CycleLaws
 pub mod Fits
 pub mod Fitting
+pub mod Counters
+pub mod FittingLaws
 pub mod Answer
 pub mod Examples
