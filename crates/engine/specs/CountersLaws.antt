@@ -246,8 +246,8 @@ module _ (img : List ℕ) (s : State) (ok : Steady img s) (c : ℕ) (h : c < cha
       (blocked-by (ch .source) (entered img s c 1) (limit img s c 0) (source-few img s c) (room img s c ok h 0))
 
 -- ---- for CycleLaws: what firing asks is all that it asks
-all-of : (f : ℕ → Bool) (n : ℕ) → ((k : ℕ) → k < n → f k ≡ true) → allBelow f n ≡ true
-all-of f n h = all-any f n ∙ ap not (none-any (λ k. not (f k)) n (λ k l. ap not (h k l)))
+all-from : (f : ℕ → Bool) (n : ℕ) → ((k : ℕ) → k < n → f k ≡ true) → allBelow f n ≡ true
+all-from f n h = all-any f n ∙ ap not (none-any (λ k. not (f k)) n (λ k l. ap not (h k l)))
 
 asked : (b x : Bool) → (b ≡ true → x ≡ true) → (x if b else true) ≡ true
 asked true x h = h refl
@@ -265,7 +265,7 @@ unfolding fires allReady anyBlocked
 ready-fires img w s n awake ready clear =
     rw (
       awake,
-      all-of (λ c. inputAt img s c .valid if eqb (to img c) n else true) (channels img)
+      all-from (λ c. inputAt img s c .valid if eqb (to img c) n else true) (channels img)
           (λ c h. asked (eqb (to img c) n) (inputAt img s c .valid) (λ e. ready c h (eqb-true (to img c) n e))),
       none-any (λ c. eqb (from img c) n && blockedAt img s c) (channels img)
           (λ c h. forbidden (eqb (from img c) n) (blockedAt img s c) (λ e. clear c h (eqb-true (from img c) n e))),

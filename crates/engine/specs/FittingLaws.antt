@@ -126,7 +126,7 @@ pub source-few : (img : List ℕ) (s : State) (c : ℕ) → length (channelIn im
 unfolding channelIn
 source-few img s c = oneIf-few (eqb (markAt s c) 1) (valueAt s (from img c))
 
-arriving-few : (img : List ℕ) (s : State) (c : ℕ) → length (arriving (channelIn img s c)) ≤ 1
+pub arriving-few : (img : List ℕ) (s : State) (c : ℕ) → length (arriving (channelIn img s c)) ≤ 1
 unfolding arriving
 arriving-few img s c =
     let ch = channelIn img s c in
@@ -149,7 +149,7 @@ module _ (img : List ℕ) (a : Accepted img) (w : ℕ) (s : State) where
         (queue-few (depth img c) (ch .queue) (arriving ch) (fires img w s (to img c)) (ok .within c h) (arriving-few img s c))
 
     -- a node that fires finds a token
-    fires-holds : fires img w s (to img c) ≡ true → holds (tokens (channelIn img s c)) ≡ true
+    pub fires-holds : fires img w s (to img c) ≡ true → holds (tokens (channelIn img s c)) ≡ true
     unfolding inputAt
     fires-holds f =
         let ch = channelIn img s c in
