@@ -8,5 +8,8 @@ pub mod Parts
 pub mod PartsLaws
 pub mod Fits
 pub mod Fitting
+pub mod Counters
+pub mod FittingLaws
+pub mod CountersLaws
 pub mod Answer
 pub mod Examples

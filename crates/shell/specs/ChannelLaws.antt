@@ -30,7 +30,7 @@ oldest-first ch e =
     ∙ link-first (ch .queue ++ arriving ch) rest e
 
 -- a node that fires still finds a token once what passes is in the queue: only a queue that holds one is full
-still-ready :
+pub still-ready :
     (depth : ℕ) (queue link : List ℤ) → 1 ≤ depth → linkOf (queue ++ link) .valid ≡ true
     → holds (queue ++ passing link (full depth (length queue))) ≡ true
 unfolding linkOf full
