@@ -1,6 +1,6 @@
 -- One latency-insensitive cycle of the whole netlist, "from the state at the start of the cycle".
 use mathlib.Core.Bool.{Bool, true, not, _&&_}
-use mathlib.Core.List.{List}
+use mathlib.Core.List.{List, [], _∷_}
 use Prim.Native.Nat.{ℕ, suc, _/_, _%_, _^_}
 use lib.Dec.{eqb}
 use lib.IntN.{ℤ}
@@ -61,6 +61,11 @@ module _ (img : List ℕ) (word : ℕ) (s : State) where
   -- "The cycle count rises by 1."
   unfoldable pub stateAfter : State
   stateAfter = stateOf img (suc (s .cycles)) nodeAfter channelNext
+
+-- the state after the cycles of these words, in order
+unfoldable pub after : List ℕ → State → List ℕ → State
+after img s [] = s
+after img s (word ∷ words) = after img (stateAfter img word s) words
 
 -- the C letters and the C values of the cycle
 unfoldable pub lettersOf : List ℕ → State → List ℕ

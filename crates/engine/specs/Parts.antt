@@ -8,17 +8,28 @@ use lib.IntN.{ℤ, pos}
 use lib.ListN.{getD, replicate}
 use Rattle.laws.specs.Below.{anyBelow}
 use Rattle.laws.specs.Choice.{_if_else_}
-use Rattle.laws.specs.Lists.{holds}
+use Rattle.laws.specs.Lists.{holds, padded}
 use Rattle.laws.specs.Table.{table, tableOver}
-use Rattle.netlist.specs.Image.{from, to}
+use Rattle.netlist.specs.declared.Channel.{Channel}
+use Rattle.netlist.specs.Image.{kind, from, to}
+use Rattle.netlist.specs.Readers.{channelAt}
 use Rattle.netlist.specs.Ports.{portsBelow}
 use Rattle.relay.specs.declared.Station.{Station}
 use Rattle.relay.specs.Station.{stationOf}
 use Rattle.shell.specs.declared.Queue.{Queue}
 use Rattle.shell.specs.Queue.{queueOf}
+use Rattle.engine.specs.declared.cycle.Wires.{Wires}
+use Rattle.engine.specs.declared.cycle.Kinds.{Kinds}
 use Rattle.engine.specs.declared.Node.{Node}
 use Rattle.engine.specs.declared.State.{State}
 use Rattle.engine.specs.Cycle.{inputAt, blockedAt, fires, nodeAfter, channelNext}
+
+-- what is decoded of the channels below c and of the nodes below n; places that none has are 0
+unfoldable pub wiresBelow : List ℕ → ℕ → Wires
+wiresBelow img c = record { at = padded 96 (record { from = 0; to = 0; port = 0; stations = 0; depth = 0 }) (table (channelAt img) c) }
+
+unfoldable pub kindsBelow : List ℕ → ℕ → Kinds
+kindsBelow img n = record { at = padded 64 0 (table (kind img) n) }
 
 module _ (img : List ℕ) (s : State) where
   -- data validation: the nodes that an input of the channels below c is not ready for, and the values that are brought to the ports
