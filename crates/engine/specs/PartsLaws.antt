@@ -18,8 +18,10 @@ use Rattle.laws.specs.Choice.{_if_else_}
 use Rattle.laws.specs.Lists.{holds, holdsTwo, oneIf, padded}
 use Rattle.laws.specs.ListsLaws.{length-padded}
 use Rattle.laws.specs.Table.{table, tableOver}
-use Rattle.laws.specs.TableLaws.{length-table, table-at, over-padded}
+use Rattle.laws.specs.TableLaws.{length-table, table-at, over-padded, padded-table}
 use Rattle.netlist.specs.Image.{nodes, channels, kind, from, to, port, feeds, stations, depth}
+use Rattle.netlist.specs.declared.Channel.{Channel as Wire}
+use Rattle.netlist.specs.Readers.{channelAt}
 use Rattle.netlist.specs.Ports.{portsBelow}
 use Rattle.netlist.specs.PortsLaws.{ports-at}
 use Rattle.netlist.specs.Accepted.{Accepted}
@@ -39,6 +41,8 @@ use Rattle.shell.specs.Queue.{waiting, queueOf, full, queueAfter}
 use Rattle.shell.specs.QueueLaws.{after-of}
 use Rattle.shell.specs.Channel.{Channel, blocked, pendingAfter, arriving, input, stopBelow, stopAbove, channelAfter}
 use Rattle.shell.specs.ChannelLaws.{arrived-few}
+use Rattle.engine.specs.declared.cycle.Wires.{Wires}
+use Rattle.engine.specs.declared.cycle.Kinds.{Kinds}
 use Rattle.engine.specs.declared.Node.{Node}
 use Rattle.engine.specs.declared.State.{State}
 use Rattle.engine.specs.State.{nodeAt, valueAt, firingsAt, markAt, stationAt, queueAt, channelIn, stateOf, noNode}
@@ -46,7 +50,7 @@ use Rattle.engine.specs.StateLaws.{place-channel, place-station, queue-o
 use Rattle.engine.specs.Cycle.{stalled, inputAt, blockedAt, allReady, anyBlocked, fires, nodeAfter, channelNext, stateAfter}
 use Rattle.engine.specs.CycleLaws.{length-row, length-next, holds-one, source-next}
 use Rattle.engine.specs.Fitting.{Fitting}
-use Rattle.engine.specs.Parts.{starvedBelow, broughtBelow, blockedBelow, firesBelow, nodesBelow, markNext, stationNext, queueNext, movedBelow}
+use Rattle.engine.specs.Parts.{wiresBelow, kindsBelow, starvedBelow, broughtBelow, blockedBelow, firesBelow, nodesBelow, markNext, stationNext, queueNext, movedBelow}
 
 -- ---- for laws
 -- a flag that is raised at one place of a table of flags
@@ -296,3 +300,16 @@ cycle-done img w s fit =
       over-table (stationNext img w s) _ (8 * channels img) 768 (stationOf []) (s .stations) (ap (λ (x : State). x .stations) (fit .written)),
       over-table (queueNext img w s) _ (channels img) 96 (queueOf []) (s .queues) (ap (λ (x : State). x .queues) (fit .written)),
     )
+
+-- ---- what is decoded
+pub wires-turn :
+    (img : List ℕ) (c : ℕ) → c < 96 → (wires : Wires) → wires ≡ wiresBelow img c → (channel : Wire) → channel ≡ channelAt img c
+    → record { at = set (wires .at) c channel } ≡ wiresBelow img (suc c)
+unfolding wiresBelow
+wires-turn img c h wires e channel f = rw (e, f, padded-table (channelAt img) c 96 _ h)
+
+pub kinds-turn :
+    (img : List ℕ) (n : ℕ) → n < 64 → (kinds : Kinds) → kinds ≡ kindsBelow img n → (k : ℕ) → k ≡ kind img n
+    → record { at = set (kinds .at) n k } ≡ kindsBelow img (suc n)
+unfolding kindsBelow
+kinds-turn img n h kinds e k f = rw (e, f, padded-table (kind img) n 64 0 h)
