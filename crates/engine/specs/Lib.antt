@@ -6,6 +6,7 @@ pub mod Cycle
 pub mod CycleLaws
 pub mod Parts
 pub mod PartsLaws
+pub mod Turns
 pub mod Fits
 pub mod Fitting
 pub mod Counters

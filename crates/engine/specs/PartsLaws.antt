@@ -18,7 +18,7 @@ use Rattle.laws.specs.Choice.{_if_else_}
 use Rattle.laws.specs.Lists.{holds, holdsTwo, oneIf, padded}
 use Rattle.laws.specs.ListsLaws.{length-padded}
 use Rattle.laws.specs.Table.{table, tableOver}
-use Rattle.laws.specs.TableLaws.{length-table, table-at, over-padded, padded-table}
+use Rattle.laws.specs.TableLaws.{length-table, table-at, over-padded, padded-table, padded-at}
 use Rattle.netlist.specs.Image.{nodes, channels, kind, from, to, port, feeds, stations, depth}
 use Rattle.netlist.specs.declared.Channel.{Channel as Wire}
 use Rattle.netlist.specs.Readers.{channelAt}
@@ -77,7 +77,7 @@ table-raise f n i b h =
         clear false = refl
 
 -- what stands there already need not be written
-over-same-at : {A : Type 0} (f : ℕ → A) (d : A) (k : ℕ) (l : List A) → k < length l → f k ≡ getD l k d → tableOver f k l ≡ tableOver f (suc k) l
+pub over-same-at : {A : Type 0} (f : ℕ → A) (d : A) (k : ℕ) (l : List A) → k < length l → f k ≡ getD l k d → tableOver f k l ≡ tableOver f (suc k) l
 unfolding tableOver table
 over-same-at f d k l h e = rw (drop-cons l k d h, ← e, append-assoc)
 
@@ -158,11 +158,26 @@ module _ (img : List ℕ) (s : State) (c : ℕ) where
     mark-turn pending stop fired e f g = rw (source-next img w s c, holds-one, e, f, g)
 
 -- ---- what a state that fits has at a place
-stations-long : (img : List ℕ) (s : State) → Fitting img s → Accepted img → length (s .stations) ≡ 768
-unfolding stateOf
-stations-long img s fit a =
-    let e : s .stations ≡ (stateOf img (s .cycles) (nodeAt s) (channelIn img s)) .stations = ap (λ (x : State). x .stations) (fit .written) in
-    ap (λ (l : List Station). length l) e ∙ length-padded 768 (stationOf []) _ (rw length-table (omega (arith, a .few-channels)))
+padded-long : {A : Type 0} (f : ℕ → A) (n m : ℕ) (d : A) (l : List A) → l ≡ padded m d (table f n) → n ≤ m → length l ≡ m
+padded-long {A = A} f n m d l e h = ap (λ (l : List A). length l) e ∙ length-padded m d (table f n) (rw length-table h)
+
+module _ (img : List ℕ) (s : State) (fit : Fitting img s) (a : Accepted img) where
+  pub nodes-long : length (s .nodes) ≡ 64
+  unfolding stateOf
+  nodes-long = padded-long (nodeAt s) (nodes img) 64 noNode (s .nodes) (ap (λ (x : State). x .nodes) (fit .written)) (a .few-nodes)
+
+  pub pending-long : length (s .pending) ≡ 96
+  unfolding stateOf
+  pending-long = padded-long _ (channels img) 96 0 (s .pending) (ap (λ (x : State). x .pending) (fit .written)) (a .few-channels)
+
+  pub stations-long : length (s .stations) ≡ 768
+  unfolding stateOf
+  stations-long =
+      padded-long _ (8 * channels img) 768 (stationOf []) (s .stations) (ap (λ (x : State). x .stations) (fit .written)) (omega (arith, a .few-channels))
+
+  pub queues-long : length (s .queues) ≡ 96
+  unfolding stateOf
+  queues-long = padded-long _ (channels img) 96 (queueOf []) (s .queues) (ap (λ (x : State). x .queues) (fit .written)) (a .few-channels)
 
 module _ (img : List ℕ) (s : State) (fit : Fitting img s) (c : ℕ) (h : c < channels img) where
   pub queue-written : queueAt s c ≡ queueOf (channelIn img s c .queue)
@@ -313,3 +328,23 @@ pub kinds-turn :
     → record { at = set (kinds .at) n k } ≡ kindsBelow img (suc n)
 unfolding kindsBelow
 kinds-turn img n h kinds e k f = rw (e, f, padded-table (kind img) n 64 0 h)
+
+pub wire-read :
+    (img : List ℕ) (c : ℕ) → c < channels img → (wires : Wires) → wires ≡ wiresBelow img (channels img)
+    → getD (wires .at) c (record { from = 0; to = 0; port = 0; stations = 0; depth = 0 }) ≡ channelAt img c
+unfolding wiresBelow
+wire-read img c h wires e = rw e (padded-at (channelAt img) (channels img) 96 c _ _ h)
+
+-- a channel's fields are indices
+pub wire-within :
+    (img : List ℕ) → Accepted img → (c : ℕ) → c < channels img → (wire : Wire) → wire ≡ channelAt img c
+    → (wire .from < 64) × (wire .to < 64) × (wire .port < 3) × (wire .stations ≤ 8)
+unfolding channelAt
+wire-within img a c h wire e =
+    let w = accepted-wired img a in
+    rw e (omega (arith, a .wires c h, a .few-nodes), w .node c h, w .input c h, a .rows c h)
+
+pub kind-read :
+    (img : List ℕ) (n : ℕ) → n < nodes img → (kinds : Kinds) → kinds ≡ kindsBelow img (nodes img) → getD (kinds .at) n 0 ≡ kind img n
+unfolding kindsBelow
+kind-read img n h kinds e = rw e (padded-at (kind img) (nodes img) 64 n 0 0 h)
