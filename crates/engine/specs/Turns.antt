@@ -9,12 +9,12 @@ use native.Mathlib.Numerals.{add-one}
 use native.Mathlib.Omega.{arith}
 use lib.Dec.{eqb}
 use lib.IntN.{ℤ, pos}
-use lib.ListN.{length, getD, set, take, replicate, length-replicate, getD-replicate}
+use lib.ListN.{length, getD, set, take, replicate, length-replicate, getD-replicate, List·getD-append}
 use Rattle.laws.specs.Cases.{or-left, or-right}
 use Rattle.laws.specs.Choice.{_if_else_}
 use Rattle.laws.specs.Lists.{holdsTwo}
-use Rattle.laws.specs.Table.{tableOver}
-use Rattle.laws.specs.TableLaws.{over-set}
+use Rattle.laws.specs.Table.{table, tableOver}
+use Rattle.laws.specs.TableLaws.{length-table, table-at, over-set}
 use Rattle.netlist.specs.declared.Channel.{Channel as Wire}
 use Rattle.netlist.specs.Image.{nodes, channels, from, to, stations, depth}
 use Rattle.netlist.specs.Accepted.{Accepted}
@@ -37,6 +37,15 @@ use Rattle.engine.specs.Cycle.{stalled, inputAt, blockedAt, fires, nodeA
 use Rattle.engine.specs.Fitting.{Fitting}
 use Rattle.engine.specs.Parts.{kindsBelow, starvedBelow, broughtBelow, blockedBelow, firesBelow, nodesBelow, stationNext, queueNext, markNext, movedBelow}
 use Rattle.engine.specs.PartsLaws.{linkIn, stopIn, link-source, link-above, link-last, stop-inside, stop-last, queue-count, starved-turn, blocked-turn, brought-turn, input-at, blocked-at, station-turn, mark-turn, queue-turn, row-skip, stations-long, pending-long, queues-long, nodes-long, over-same-at, gate-turn, taken-turn, kind-read, cycle-done}
+
+-- a state with another node n; with another queue c
+abbrev pub withNode : State → ℕ → Node → State
+withNode t n node =
+    record { cycles = t .cycles; nodes = set (t .nodes) n node; pending = t .pending; stations = t .stations; queues = t .queues }
+
+abbrev pub withQueue : State → ℕ → Queue → State
+withQueue t c queue =
+    record { cycles = t .cycles; nodes = t .nodes; pending = t .pending; stations = t .stations; queues = set (t .queues) c queue }
 
 -- a queue whose node does not fire, and to which nothing passes, stays
 stays : (q : Queue) (link : Link) (stop fired : Bool) → fired ≡ false → link .valid && not stop ≡ false → queueAfter q (passing (token link) stop) fired ≡ q
@@ -76,6 +85,14 @@ module _ (img : List ℕ) (a : Accepted img) (s : State) (fit : Fitting img s) (
       (λ d.
       let k : 0 ≡ stations img c = omega (arith, r, d .0) in
       ap token (d .1) ∙ q ∙ ap (linkIn img s c) k ∙ link-last img s c)
+
+  -- what link j + 1 shows
+  pub link-read :
+      (j : ℕ) → j < wire .stations → (link : Link) → link ≡ linkOf (held (getD (s .stations) (8 * c + j) noStation)) → token link ≡ linkIn img s c (j + 1)
+  unfolding channelAt stationAt
+  link-read j l link q =
+      let r : wire .stations ≡ stations img c = ap (λ (w : Wire). w .stations) e in
+      ap token q ∙ link-above img s c j (omega (arith, r)) ∙ ap (linkIn img s c) (sym (add-one j))
 
   -- the stop of link j
   pub stop-read :
@@ -139,6 +156,27 @@ module _ (img : List ℕ) (a : Accepted img) (s : State) (fit : Fitting img s) (
         let k : 8 * c + (j + 1) ≡ suc (8 * c + j) = omega arith in
         rw (q, p, k, over-set (stationNext img w s) (8 * c + j) (s .stations) (omega (arith, r, a .rows c h, a .few-channels, stations-long img s fit a)))
 
+    -- the link that arrives at the queue, behind the last station
+    pub last-read : (link : Link) → token link ≡ linkIn img s c (wire .stations) → token link ≡ arriving (channelIn img s c)
+    unfolding channelAt
+    last-read link q = q ∙ ap (λ (w : Wire). linkIn img s c (w .stations)) e ∙ link-last img s c
+
+    -- whether the nodes at its ends fire
+    pub ends-read :
+        (now : List Bool) → now ≡ firesBelow img w s (nodes img)
+        → (getD now (wire .to) false ≡ fires img w s (to img c)) × (getD now (wire .from) false ≡ fires img w s (from img c))
+    unfolding channelAt firesBelow tableOver
+    ends-read now q = rw (e, q) (
+        List·getD-append (table (fires img w s) (nodes img)) _ false (to img c) (rw length-table (a .wires c h .1)) ∙ table-at (fires img w s) (nodes img) (to img c) false (a .wires c h .1),
+        List·getD-append (table (fires img w s) (nodes img)) _ false (from img c) (rw length-table (a .wires c h .0)) ∙ table-at (fires img w s) (nodes img) (from img c) false (a .wires c h .0),
+      )
+
+    pub mark-read :
+        (stop fired : Bool) → stop ≡ stopIn img s c 0 → fired ≡ fires img w s (from img c)
+        → (1 if pendingAfter (eqb (getD (s .pending) c 0) 1) stop fired else 0) ≡ markNext img w s c
+    unfolding markAt
+    mark-read stop fired p q = mark-turn img s c w (eqb (getD (s .pending) c 0) 1) stop fired refl p q
+
     -- the queue, stored if it changes
     pub queue-read :
         (link : Link) (stop fired : Bool) → token link ≡ arriving (channelIn img s c) → stop ≡ stopBelow (depth img c) (channelIn img s c)
@@ -156,14 +194,14 @@ module _ (img : List ℕ) (a : Accepted img) (s : State) (fit : Fitting img s) (
 
     -- the channel is done
     pub channel-turn :
-        (cycles : ℕ) (ns : List Node) (t u : State) → t ≡ movedBelow img w s cycles ns c (8 * c + stations img c)
-        → (u ≡ record { cycles = t .cycles; nodes = t .nodes; pending = t .pending; stations = t .stations; queues = set (t .queues) c (queueNext img w s c) }) ⊎
-        ((u ≡ t) × (queueNext img w s c ≡ getD (s .queues) c noQueue))
+        (cycles : ℕ) (ns : List Node) (t u : State) → t ≡ movedBelow img w s cycles ns c (8 * c + wire .stations)
+        → ((queue : Queue) × (queue ≡ queueNext img w s c) × (u ≡ withQueue t c queue)) ⊎ ((u ≡ t) × (queueNext img w s c ≡ getD (s .queues) c noQueue))
         → (mark : ℕ) → mark ≡ markNext img w s c
         → record { cycles = u .cycles; nodes = u .nodes; pending = set (u .pending) c mark; stations = u .stations; queues = u .queues } ≡
         movedBelow img w s cycles ns (c + 1) (8 * (c + 1))
-    unfolding movedBelow
+    unfolding channelAt movedBelow
     channel-turn cycles ns t u q came mark m =
+        let r : wire .stations ≡ stations img c = ap (λ (w : Wire). w .stations) e in
         let long : c < length (s .pending) = omega (arith, pending-long img s fit a, a .few-channels) in
         let few : c < length (s .queues) = omega (arith, queues-long img s fit a, a .few-channels) in
         let k :
@@ -176,8 +214,8 @@ module _ (img : List ℕ) (a : Accepted img) (s : State) (fit : Fitting img s) (
               queues = tableOver (queueNext img w s) (suc c) (s .queues);
             } =
         ⊎-elim
-        (λ z. z ∙ rw (q, over-set (queueNext img w s) c (s .queues) few))
-        (λ z. z .0 ∙ rw (q, over-same-at (queueNext img w s) noQueue c (s .queues) few (z .1)))
+        (λ z. z .2 ∙ rw (z .1, q, r, over-set (queueNext img w s) c (s .queues) few))
+        (λ z. z .0 ∙ rw (q, r, over-same-at (queueNext img w s) noQueue c (s .queues) few (z .1)))
         came in
         rw (k, m, add-one, row-skip img s fit c h a w, over-set (markNext img w s) c (s .pending) long)
 
@@ -191,20 +229,20 @@ module _ (img : List ℕ) (a : Accepted img) (s : State) (fit : Fitting img s) (
   -- it fires
   pub fired-read :
       fires img w s n ≡ true → (kinds : Kinds) → kinds ≡ kindsBelow img (nodes img) → (brought : List ℤ) → brought ≡ broughtBelow img s (channels img)
-      → (node : Node)
-      → node ≡
-      record {
-        value = nextValue (getD (kinds .at) n 0) (getD (s .nodes) n noNode .value) (getD brought (3 * n) (pos 0)) (getD brought (3 * n + 1) (pos 0)) (getD brought (3 * n + 2) (pos 0));
+      → (x y z : ℤ) → x ≡ getD brought (3 * n) (pos 0) → y ≡ getD brought (3 * n + 1) (pos 0) → z ≡ getD brought (3 * n + 2) (pos 0)
+      → _≡_ {A = Node}
+      (record {
+        value = nextValue (getD (kinds .at) n 0) (getD (s .nodes) n noNode .value) x y z;
         firings = suc (getD (s .nodes) n noNode .firings);
-      }
-      → node ≡ nodeAfter img w s n
+      })
+      (nodeAfter img w s n)
   unfolding nodeAfter nodeAt
-  fired-read f kinds p brought q node r =
-      rw f (r ∙ rw (kind-read img n h kinds p, q, taken-turn img s n a h (getD (s .nodes) n noNode .value)))
+  fired-read f kinds p brought q x y z a1 a2 a3 =
+      rw (f, a1, a2, a3, kind-read img n h kinds p, q, taken-turn img s n a h (getD (s .nodes) n noNode .value))
 
   pub gated-turn :
       (t u : State) (was now : List Bool) → t ≡ movedBelow img w s (s .cycles) (nodesBelow img w s n) 0 0 → was ≡ firesBelow img w s n
-      → ((fires img w s n ≡ true) × (u ≡ record { cycles = t .cycles; nodes = set (t .nodes) n (nodeAfter img w s n); pending = t .pending; stations = t .stations; queues = t .queues }) × (now ≡ set was n true)) ⊎
+      → ((fires img w s n ≡ true) × ((node : Node) × (node ≡ nodeAfter img w s n) × (u ≡ withNode t n node)) × (now ≡ set was n true)) ⊎
       ((fires img w s n ≡ false) × (u ≡ t) × (now ≡ was))
       → (u ≡ movedBelow img w s (s .cycles) (nodesBelow img w s (n + 1)) 0 0) × (now ≡ firesBelow img w s (n + 1))
   unfolding movedBelow nodesBelow firesBelow
@@ -214,7 +252,7 @@ module _ (img : List ℕ) (a : Accepted img) (s : State) (fit : Fitting img s) (
       let flags : n < length (replicate 64 false) = rw length-replicate few in
       ⊎-elim
       (λ z. (
-        z .1 ∙ rw (p, add-one, over-set (nodeAfter img w s) n (s .nodes) long),
+        z .1 .2 ∙ rw (z .1 .1, p, add-one, over-set (nodeAfter img w s) n (s .nodes) long),
         z .2 ∙ rw (q, add-one, ← (z .0), over-set (fires img w s) n (replicate 64 false) flags),
       ))
       (λ z. (

@@ -7,8 +7,13 @@ use mathlib.Core.Logic.{_⊎_, inl, inr, ⊎-elim}
 use mathlib.Core.Path.{_≡_, refl, sym, ap, _∙_}
 use Prim.Native.Nat.{ℕ, _≤_, _<_, _+_, _*_, _-_}
 use native.Mathlib.Nat.{add-zero}
+use native.Mathlib.Numerals.{add-one}
 use native.Mathlib.Omega.{arith}
+use lib.IntN.{ℤ, pos}
 use lib.ListN.{length, take, getD}
+use lib.Seq.{take-length}
+use Rattle.laws.specs.Choice.{_if_else_}
+use Rattle.laws.specs.SignedLaws.{told}
 use Rattle.laws.specs.Lists.{holdsTwo}
 use Rattle.netlist.specs.declared.Channel.{Channel as Wire}
 use Rattle.netlist.specs.Image.{nodes, channels}
@@ -27,11 +32,12 @@ use Rattle.relay.specs.RowCycle.{noStation}
 use Rattle.shell.specs.Channel.{arriving}
 use Rattle.engine.specs.State.{noNode, nodeAt, channelIn}
 use Rattle.engine.specs.declared.State.{State}
-use Rattle.engine.specs.Cycle.{inputAt, after}
+use Rattle.engine.specs.Cycle.{inputAt, stateAfter, after}
 use Rattle.engine.specs.Fitting.{Fitting}
 use Rattle.engine.specs.Parts.{starvedBelow, broughtBelow, blockedBelow, firesBelow, nodesBelow, movedBelow}
 use Rattle.engine.specs.PartsLaws.{linkIn, stopIn, wire-read, wire-within}
-use Rattle.engine.specs.Turns.{source-read, arriving-read, stop-read, full-read, input-read, held-read, starved-read, brought-read, blocked-read}
+use Rattle.engine.specs.Turns.{source-read, arriving-read, stop-read, full-read, input-read, held-read, starved-read, brought-read, blocked-read, station-read, row-turn, link-read, last-read, ends-read, mark-read, queue-read, queue-idle, channel-turn, fires-read, fired-read, gated-turn, cycle-turn, after-next}
+use Rattle.engine.specs.FittingLaws.{fitting-next}
 use Rattle.engine.proofs.cycle.cycles.Statement.{statement}
 use Rattle.engine.proofs.cycle.cycles.Tie as tie
 
@@ -122,6 +128,10 @@ there c i h = omega (arith, c .before .before .channels .ensures)
 -- the first place of a row
 first-place : (s : State) (i : ℕ) → holdsTwo (held (getD (s .stations) (8 * i) noStation)) ≡ holdsTwo (held (getD (s .stations) (8 * i + 0) noStation))
 first-place s i = ap (λ (n : ℕ). holdsTwo (held (getD (s .stations) n noStation))) (sym (add-zero (8 * i)))
+
+-- the word of the cycle
+abbrev word : tie.At-loop Inv-loop2 μ-loop2 Inv-loop3 μ-loop3 Inv-loop5 μ-loop5 Inv-loop4 μ-loop4 Inv-loop μ-loop → ℕ
+word c = getD ((c .before .before .before .before .before .before .before) .args .words .now) (c .loop .t) 0
 
 nodes-requires :
     tie.Need-nodes-requires
@@ -1136,7 +1146,31 @@ loop3-again :
     μ-loop4
     Inv-loop
     μ-loop
-loop3-again c = ?
+loop3-again c = let k = (c .before .before .before .before .before .before .before .before .before) in
+    let s = (c .before .before .before .before .before .before .before .before) .loop .s in
+    let fit = (c .before .before .before .before .before .before .before .before) .loop .inv .fits in
+    let w = word (c .before .before .before .before .before .before .before .before) in
+    let scan = (c .before .before .before .before .before) .loop2 in
+    let l = (c .before .before .before) .loop3 in
+    let n = l .n in
+    let there : n < nodes (img k) = omega (arith, (c .before .before .before .before .before .before .before .before .before .before .before .before) .nodes .ensures) in
+    let all : scan .c ≡ channels (img k) = omega (arith, (c .before .before .before .before .before .before .before .before .before .before .before) .channels .ensures) in
+    let join = c .if2 in
+    let test = fires-read (img k) (net k) s fit w n there (scan .starved) (scan .blocked)
+    (scan .inv .1 ∙ ap (starvedBelow (img k) s) all) (scan .inv .3 ∙ ap (blockedBelow (img k) s) all) _ ((c .before) .stalls .ensures) in
+    let brought = scan .inv .2 ∙ ap (broughtBelow (img k) s) all in
+    let at : ℕ → ℤ = λ (i : ℕ). getD (scan .brought) i (pos 0) in
+    let r = gated-turn (img k) (net k) s fit w n there (l .s) (join .s) (l .fires) (join .fires) (l .inv .1) (l .inv .2)
+    (⊎-elim
+    (λ d.
+    let f = sym test ∙ d .0 .taken in
+    let after = d .6 .ensures
+    ∙ fired-read (img k) (net k) s fit w n there f _ (k .kinds-of .ensures) (scan .brought) brought _ _ _
+    (toZ-ofZ (told (at (3 * n)) (d .3 .given))) (toZ-ofZ (told (at (3 * n + 1)) (d .4 .given))) (toZ-ofZ (told (at (3 * n + 2)) (d .5 .given))) in
+    inl (f, (_, after, d .7), d .8))
+    (λ d. inr (sym test ∙ d .0 .left, d .1, d .2))
+    (join .came)) in
+    (omega arith, r .0, r .1)
 
 loop4-holds :
     tie.Need-loop4-holds
@@ -1150,7 +1184,12 @@ loop4-holds :
     μ-loop4
     Inv-loop
     μ-loop
-loop4-holds c = ?
+loop4-holds c = let k = (c .before .before .before .before .before .before .before) in
+    let s = (c .before .before .before .before .before .before) .loop .s in
+    let w = word (c .before .before .before .before .before .before) in
+    let l = (c .before) .loop3 in
+    let e : l .n ≡ (c .before .before .before .before .before .before .before .before .before .before) .nodes .result = omega arith in
+    (omega arith, l .inv .1 ∙ ap (λ (n : ℕ). movedBelow (img k) w s (s .cycles) (nodesBelow (img k) w s n) 0 0) e)
 
 mul-channel-2 :
     tie.Need-mul-channel-2
@@ -1374,7 +1413,19 @@ loop5-holds :
     μ-loop4
     Inv-loop
     μ-loop
-loop5-holds c = ?
+loop5-holds c = let k = (c .before .before .before .before .before .before .before .before .before .before .before .before .before .before .before .before .before .before .before) in
+    let s = (c .before .before .before .before .before .before .before .before .before .before .before .before .before .before .before .before .before .before) .loop .s in
+    let fit = (c .before .before .before .before .before .before .before .before .before .before .before .before .before .before .before .before .before .before) .loop .inv .fits in
+    let w = word (c .before .before .before .before .before .before .before .before .before .before .before .before .before .before .before .before .before .before) in
+    let l = (c .before .before .before .before .before .before .before .before .before .before .before) .loop4 in
+    let i = l .c in
+    let h = there k i (moving (c .before .before .before .before .before .before .before .before .before .before)) in
+    let e = wire k i (moving (c .before .before .before .before .before .before .before .before .before .before)) in
+    let f : SFits w32 (getD (s .nodes) (readAt k i .from) noNode .value) = record { sfits = (c .before) .struct-told3 .given .0 .1 } in (
+      omega arith,
+      l .inv .1 ∙ ap (movedBelow (img k) w s (s .cycles) (nodesBelow (img k) w s ((c .before .before .before .before .before .before .before .before .before .before .before .before .before .before .before .before .before .before .before .before .before .before) .nodes .result)) i) (sym (add-zero (8 * i))),
+      source-read (img k) (net k) s fit i h _ e _ (toZ-ofZ f),
+    )
 
 mul-station :
     tie.Need-mul-station
@@ -1654,7 +1705,28 @@ loop5-again :
     μ-loop4
     Inv-loop
     μ-loop
-loop5-again c = ?
+loop5-again c = let k = (c .before .before .before .before .before .before .before .before .before .before .before .before .before .before .before .before .before .before .before .before .before .before .before .before .before) in
+    let s = (c .before .before .before .before .before .before .before .before .before .before .before .before .before .before .before .before .before .before .before .before .before .before .before .before) .loop .s in
+    let fit = (c .before .before .before .before .before .before .before .before .before .before .before .before .before .before .before .before .before .before .before .before .before .before .before .before) .loop .inv .fits in
+    let w = word (c .before .before .before .before .before .before .before .before .before .before .before .before .before .before .before .before .before .before .before .before .before .before .before .before) in
+    let i = (c .before .before .before .before .before .before .before .before .before .before .before .before .before .before .before .before .before) .loop4 .c in
+    let h = there k i (moving (c .before .before .before .before .before .before .before .before .before .before .before .before .before .before .before .before)) in
+    let e = wire k i (moving (c .before .before .before .before .before .before .before .before .before .before .before .before .before .before .before .before)) in
+    let l = (c .before .before .before .before .before) .loop5 in
+    let join = (c .before .before) .if4 in
+    let inside : l .j < readAt k i .stations = omega arith in
+    let stop : join .below ≡ stopIn (img k) s i (l .j + 1) =
+    stop-read (img k) (net k) s fit i h _ e (l .j + 1) (join .below)
+    (⊎-elim
+    (λ d. inl (omega (arith, d .0 .taken), d .3 ∙ d .2 .ensures))
+    (λ d. inr (omega (arith, d .0 .left), d .1 ∙ (c .before .before .before .before .before .before .before .before) .full3 .ensures ∙ full-read (img k) (net k) s fit i h _ e))
+    (join .came)) in
+    let next = (c .before) .after .ensures
+    ∙ station-read (img k) (net k) s fit i h _ e w (l .j) inside (l .link) (join .below) (l .inv .2) (rw add-one at stop) in (
+      omega arith,
+      row-turn (img k) (net k) s fit i h _ e w (s .cycles) (nodesBelow (img k) w s ((c .before .before .before .before .before .before .before .before .before .before .before .before .before .before .before .before .before .before .before .before .before .before .before .before .before .before .before .before) .nodes .result)) (l .j) inside (l .s) (l .inv .1) _ next,
+      link-read (img k) (net k) s fit i h _ e (l .j) inside (c .link2 .result) (c .link2 .ensures),
+    )
 
 array-read-takes :
     tie.Need-array-read-takes
@@ -1808,7 +1880,39 @@ loop4-again :
     μ-loop4
     Inv-loop
     μ-loop
-loop4-again c = ?
+loop4-again c = let k = (c .before .before .before .before .before .before .before .before .before .before .before .before .before .before .before .before .before .before .before .before .before .before .before .before .before) in
+    let s = (c .before .before .before .before .before .before .before .before .before .before .before .before .before .before .before .before .before .before .before .before .before .before .before .before) .loop .s in
+    let fit = (c .before .before .before .before .before .before .before .before .before .before .before .before .before .before .before .before .before .before .before .before .before .before .before .before) .loop .inv .fits in
+    let w = word (c .before .before .before .before .before .before .before .before .before .before .before .before .before .before .before .before .before .before .before .before .before .before .before .before) in
+    let i = (c .before .before .before .before .before .before .before .before .before .before .before .before .before .before .before .before .before) .loop4 .c in
+    let h = there k i (moving (c .before .before .before .before .before .before .before .before .before .before .before .before .before .before .before .before)) in
+    let e = wire k i (moving (c .before .before .before .before .before .before .before .before .before .before .before .before .before .before .before .before)) in
+    let l = (c .before .before .before .before .before) .loop5 in
+    let end : l .j ≡ readAt k i .stations = omega arith in
+    let gate = (c .before .before .before .before .before .before .before .before .before .before .before .before .before .before .before .before .before .before .before) .loop3 in
+    let n : gate .n ≡ nodes (img k) = omega (arith, (c .before .before .before .before .before .before .before .before .before .before .before .before .before .before .before .before .before .before .before .before .before .before .before .before .before .before .before .before) .nodes .ensures, gate .inv .0, (c .before .before .before .before .before .before .before .before .before .before .before .before .before .before .before .before .before .before) .loop3-test .left) in
+    let ends = ends-read (img k) (net k) s fit i h _ e w (gate .fires) (gate .inv .2 ∙ ap (firesBelow (img k) w s) n) in
+    let full = (c .before .before .before .before .before .before .before .before) .full3 .ensures ∙ full-read (img k) (net k) s fit i h _ e in
+    let link = last-read (img k) (net k) s fit i h _ e w (l .link) (l .inv .2 ∙ ap (linkIn (img k) s i) end) in
+    let stop : (c .before .before .before .before .before .before) .if3 .stop ≡ stopIn (img k) s i 0 =
+    stop-read (img k) (net k) s fit i h _ e 0 ((c .before .before .before .before .before .before) .if3 .stop)
+    (⊎-elim
+    (λ d. inl (omega (arith, d .0 .taken), d .3 ∙ d .2 .ensures ∙ first-place s i))
+    (λ d. inr (omega (arith, d .0 .left), d .1 ∙ full))
+    ((c .before .before .before .before .before .before) .if3 .came)) in
+    let ns = nodesBelow (img k) w s ((c .before .before .before .before .before .before .before .before .before .before .before .before .before .before .before .before .before .before .before .before .before .before .before .before .before .before .before .before) .nodes .result) in
+    let join = (c .before .before) .if5 in (
+      omega arith,
+      channel-turn (img k) (net k) s fit i h _ e w (s .cycles) ns (l .s) (join .s)
+          (l .inv .1 ∙ ap (λ (j : ℕ). movedBelow (img k) w s (s .cycles) ns i (8 * i + j)) end)
+          (⊎-elim
+          (λ d. inl (_, d .1 .ensures ∙ queue-read (img k) (net k) s fit i h _ e w (l .link) _ _ link full (ends .0), d .2))
+          (λ d. inr (d .1, queue-idle (img k) (net k) s fit i h _ e w (l .link) _ _ link full (ends .0) (d .0 .left)))
+          (join .came))
+          _
+          (c .mark .ensures ∙ ap (λ (b : Bool). 1 if b else 0) ((c .before) .pending-after .ensures)
+          ∙ mark-read (img k) (net k) s fit i h _ e w _ _ stop (ends .1)),
+    )
 
 add-s :
     tie.Need-add-s
@@ -1864,7 +1968,26 @@ loop-again :
     μ-loop4
     Inv-loop
     μ-loop
-loop-again c = ?
+loop-again c = let k = (c .before .before .before .before .before .before .before .before .before) in
+    let s = (c .before .before .before .before .before .before .before .before) .loop .s in
+    let made = (c .before .before .before .before .before .before .before .before) .loop .inv in
+    let w = word (c .before .before .before .before .before .before .before .before) in
+    let words = (c .before .before .before .before .before .before .before .before .before .before .before .before .before .before .before) .args .words .now in
+    let t = (c .before .before .before .before .before .before .before .before) .loop .t in
+    let l = (c .before) .loop4 in
+    let all : l .c ≡ channels (img k) = omega (arith, (c .before .before .before .before .before .before .before .before .before .before .before) .channels .ensures) in
+    let moved = l .inv .1
+    ∙ ap (λ (n : ℕ). movedBelow (img k) w s (s .cycles) (nodesBelow (img k) w s n) (l .c) (8 * l .c)) ((c .before .before .before .before .before .before .before .before .before .before .before .before) .nodes .ensures)
+    ∙ ap (λ (c : ℕ). movedBelow (img k) w s (s .cycles) (nodesBelow (img k) w s (nodes (img k))) c (8 * c)) all in
+    let e = cycle-turn (img k) w s (made .fits) (l .s) moved in
+    record {
+      done = omega arith;
+      state =
+          e ∙ ap (stateAfter (img k) w) (made .state) ∙ sym (after-next (img k) ((c .before .before .before .before .before .before .before .before .before .before .before .before .before .before .before) .args .state) words t (omega arith))
+          ∙ ap (λ (n : ℕ). after (img k) ((c .before .before .before .before .before .before .before .before .before .before .before .before .before .before .before) .args .state) (take n words)) (sym (add-one t));
+      fits = rw e (fitting-next (img k) (net k) w s (made .fits) (omega (arith, made .count)));
+      count = omega (arith, made .count);
+    }
 
 returns :
     tie.Need-returns
@@ -1878,7 +2001,10 @@ returns :
     μ-loop4
     Inv-loop
     μ-loop
-returns c = ?
+returns c = let l = (c .before) .loop in
+    let words = (c .before .before .before .before .before .before .before .before) .args .words .now in
+    let e : l .t ≡ length words = omega (arith, l .inv .done) in
+    l .inv .state ∙ ap (after (img (c .before .before)) ((c .before .before .before .before .before .before .before .before) .args .state)) (ap (λ (n : ℕ). take n words) e ∙ take-length words)
 
 pub cycles-spec : {M : Type 1} → statement M
 cycles-spec =
