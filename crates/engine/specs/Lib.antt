@@ -6,5 +6,6 @@ pub mod Cycle
 pub mod CycleLaws
 pub mod Fits
 pub mod Fitting
+pub mod FitsLaws
 pub mod Answer
 pub mod Examples
