@@ -116,7 +116,7 @@ contents-count f (suc n) = rw (contents-last, contents-count f n)
 
 -- ---- what each condition of number 21 says
 -- the unused places of an array
-abbrev Cleared : ℕ → ℕ → List ℤ → Type 0
+abbrev pub Cleared : ℕ → ℕ → List ℤ → Type 0
 Cleared n count l = (i : ℕ) → i < n → count ≤ i → getD l i (pos 0) ≡ pos 0
 
 zero-from : (n count : ℕ) (l : List ℤ) → (zeroFrom n count l ≡ true) ↔ Cleared n count l
@@ -125,7 +125,7 @@ zero-from n count l =
     all-iff (λ i. ltb i count || isZero (getD l i (pos 0))) n (λ i. or-iff (ltb i count) (isZero (getD l i (pos 0))) (ge-iff i count) (zero-iff (getD l i (pos 0))))
 
 module _ (img : List ℕ) (s : State) where
-  cycles-say : (cyclesFit img s ≡ true) ↔ (s .cycles ≤ 1000000)
+  pub cycles-say : (cyclesFit img s ≡ true) ↔ (s .cycles ≤ 1000000)
   unfolding cyclesFit
   cycles-say = le-iff (s .cycles) 1000000
 
@@ -137,7 +137,7 @@ module _ (img : List ℕ) (s : State) where
   unfolding marksFit
   marks-say = all-iff (λ c. leb (markAt s c) 1) (channels img) (λ c. le-iff (markAt s c) 1)
 
-  stations-say : (c : ℕ) → (stationsFit img s c ≡ true) ↔ ((j : ℕ) → j < stations img c → stationAt s c j .count ≤ 2)
+  pub stations-say : (c : ℕ) → (stationsFit img s c ≡ true) ↔ ((j : ℕ) → j < stations img c → stationAt s c j .count ≤ 2)
   unfolding stationsFit
   stations-say c = all-iff (λ j. leb (stationAt s c j .count) 2) (stations img c) (λ j. le-iff (stationAt s c j .count) 2)
 
@@ -149,7 +149,7 @@ module _ (img : List ℕ) (s : State) where
       all-iff (λ c. stationsFit img s c && leb (queueAt s c .count) (depth img c)) (channels img)
       (λ c. and-iff (stationsFit img s c) (leb (queueAt s c .count) (depth img c)) (stations-say c) (le-iff (queueAt s c .count) (depth img c)))
 
-  node-says : (n : ℕ) → (nodeClear img s n ≡ true) ↔ (nodes img ≤ n → (valueAt s n ≡ pos 0) × (firingsAt s n ≡ 0))
+  pub node-says : (n : ℕ) → (nodeClear img s n ≡ true) ↔ (nodes img ≤ n → (valueAt s n ≡ pos 0) × (firingsAt s n ≡ 0))
   unfolding nodeClear
   node-says n =
       or-iff (ltb n (nodes img)) (isZero (valueAt s n) && eqb (firingsAt s n) 0) (ge-iff n (nodes img))
@@ -183,7 +183,7 @@ module _ (img : List ℕ) (s : State) where
       (zero-from 8 (q .count) (q .tokens))
       (or-iff (ltb c (channels img)) (eqb (q .count) 0) (ge-iff c (channels img)) (eq-iff (q .count) 0))
 
-  balance-says :
+  pub balance-says :
       (c : ℕ)
       → (balanced img s c ≡ true) ↔
       (markAt s c + sumBelow (λ j. stationAt s c j .count) (stations img c) + queueAt s c .count + firingsAt s (to img c) ≡
@@ -211,7 +211,7 @@ pub record Places (img : List ℕ) (s : State) : Type 0 where
       firingsAt s (from img c) + 1
 
 module _ (img : List ℕ) (s : State) where
-  channel-says :
+  pub channel-says :
       (c : ℕ)
       → ((markClear img s c && allBelow (stationClear img s c) 8 && queueClear img s c) ≡ true) ↔
       (((channels img ≤ c → markAt s c ≡ 0) ×

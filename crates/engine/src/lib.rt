@@ -1,4 +1,6 @@
 // The cycle engine: the state of a netlist, one cycle of it, and a run over a list of stall words.
+mod fits;
+
 use relay::Station;
 use shell::Queue;
 
@@ -35,4 +37,13 @@ pub struct Ran {
     pub steps: u32,
     pub number: u8,
     pub state: State,
+}
+
+impl State {
+    // How many nodes and channels a state has places for, and its last cycle.
+    pub const NODES: u8 = 64;
+
+    pub const CHANNELS: u8 = 96;
+
+    pub const CYCLES: u32 = 1000000;
 }
