@@ -7,6 +7,7 @@ pub mod CycleLaws
 pub mod Fits
 pub mod Fitting
 pub mod FitsLaws
+pub mod FreshLaws
 pub mod FitsPasses
 pub mod FitsPassesLaws
 pub mod Answer

@@ -1,5 +1,6 @@
 // The cycle engine: the state of a netlist, one cycle of it, and a run over a list of stall words.
 mod fits;
+mod initial;
 
 use relay::Station;
 use shell::Queue;
