@@ -9,19 +9,29 @@ ghost use Rattle.netlist.specs.Accepted.{Accepted};
 ghost use Rattle.engine.specs.Fresh.{zeros, freshState, freshAnswer};
 
 impl State {
+    // How many nodes and channels a state has places for, and the last cycle count that it may have.
+    pub const NODES: u8 = 64;
+
+    pub const CHANNELS: u8 = 96;
+
+    pub const CYCLES: u32 = 1000000;
+
     // A state of zeros throughout.
     pub fn zeros() -> Self
         ensures { λ r. ⌜ r ≡ zeros ⌝ }
     {
+        let node = Node {
+            value: 0,
+            firings: 0,
+        };
+        let station = Station::empty();
+        let queue = Queue::empty();
         State {
             cycles: 0,
-            nodes: [Node {
-                value: 0,
-                firings: 0,
-            }; 64],
+            nodes: [node; 64],
             pending: [0; 96],
-            stations: [Station::empty(); 768],
-            queues: [Queue::empty(); 96],
+            stations: [station; 768],
+            queues: [queue; 96],
         }
     }
 
@@ -54,15 +64,15 @@ impl State {
     pub fn fresh(image: &[u8]) -> Fresh
         ensures { λ r. ⌜ r ≡ freshAnswer (now (image .entry)) ⌝ }
     {
-        let number = netlist::judge(image);
-        if number != 0 {
+        let refusal = netlist::judge(image);
+        if refusal != 0 {
             return Fresh {
-                number,
+                number: refusal,
                 state: State::zeros(),
             };
         }
         Fresh {
-            number,
+            number: 0,
             state: State::started(image),
         }
     }

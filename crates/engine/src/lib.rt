@@ -39,12 +39,3 @@ pub struct Ran {
     pub number: u8,
     pub state: State,
 }
-
-impl State {
-    // How many nodes and channels a state has places for, and its last cycle.
-    pub const NODES: u8 = 64;
-
-    pub const CHANNELS: u8 = 96;
-
-    pub const CYCLES: u32 = 1000000;
-}

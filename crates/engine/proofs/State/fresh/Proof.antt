@@ -2,7 +2,7 @@
 use mathlib.Core.Path.{_≡_}
 use native.Mathlib.Omega.{arith}
 use borrow.Author.Needs.{needs}
-use borrow.Author.Tests.{eq-eqb, ne-eqb}
+use borrow.Author.Tests.{ne-eqb}
 use Rattle.netlist.specs.Judge.{judge}
 use Rattle.netlist.specs.AcceptedLaws.{accepted}
 use Rattle.engine.specs.Fresh.{freshAnswer}
@@ -31,10 +31,7 @@ started-requires c κs = accepted (c .before .before .before .args .image .now) 
 
 returns-2 : tie.Need-returns-2
 unfolding freshAnswer
-returns-2 c =
-    let j = c .before .before in
-    let number = judge (j .before .before .args .image .now) in
-    rw (c .started .ensures, j .judge .ensures, eq-eqb number 0 (ok (c .before)))
+returns-2 c = rw (c .started .ensures, ok (c .before))
 
 pub fresh-spec : {M : Type 1} → statement M
 fresh-spec = tie.close (tie.spec judge-requires zeros-requires returns started-requires returns-2)
