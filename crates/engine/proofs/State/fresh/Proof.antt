@@ -1,0 +1,37 @@
+-- `engine::State::fresh` meets its contract. Assumes nothing.
+use mathlib.Core.Path.{_≡_}
+use native.Mathlib.Omega.{arith}
+use borrow.Author.Needs.{needs}
+use borrow.Author.Tests.{ne-eqb}
+use Rattle.netlist.specs.Judge.{judge}
+use Rattle.netlist.specs.AcceptedLaws.{accepted}
+use Rattle.engine.specs.Fresh.{freshAnswer}
+use Rattle.engine.proofs.State.fresh.Statement.{statement}
+use Rattle.engine.proofs.State.fresh.Tie as tie
+
+-- past the test the image is accepted
+ok : (c : tie.Else1) → judge (c .before .before .before .args .image .now) ≡ 0
+ok c = omega (arith, c .before .judge .ensures)
+
+judge-requires : tie.Need-judge-requires
+judge-requires c κs = search needs
+
+zeros-requires : tie.Need-zeros-requires
+zeros-requires c κs = search needs
+
+returns : tie.Need-returns
+unfolding freshAnswer
+returns c =
+    let j = c .before .before in
+    let number = judge (j .before .before .args .image .now) in
+    rw (c .zeros .ensures, j .judge .ensures, ne-eqb number 0 (λ e. omega (arith, j .judge .ensures)))
+
+started-requires : tie.Need-started-requires
+started-requires c κs = accepted (c .before .before .before .args .image .now) (ok c)
+
+returns-2 : tie.Need-returns-2
+unfolding freshAnswer
+returns-2 c = rw (c .started .ensures, ok (c .before))
+
+pub fresh-spec : {M : Type 1} → statement M
+fresh-spec = tie.close (tie.spec judge-requires zeros-requires returns started-requires returns-2)

@@ -1,0 +1,137 @@
+-- What each way out of a step and of a run answers, and which cycles a run makes. Assumes nothing.
+use mathlib.Core.Bool.{Bool, true, false, not, _||_, true≢false}
+use mathlib.Core.List.{List, [], _∷_, _++_}
+use mathlib.Core.Logic.{⊎-elim}
+use mathlib.Core.Path.{_≡_, refl, sym, ap, _∙_}
+use Prim.Native.Nat.{ℕ, zero, suc, _+_, _<_, _≤_}
+use native.Mathlib.Nat.{not-suc-le-zero, le-of-suc-le-suc}
+use native.Mathlib.Omega.{arith}
+use borrow.Author.Tests.{eq-eqb, ne-eqb, eqb-true, lt-ltb, le-ltb, ltb-false, not-false}
+use lib.Dec.{eqb, ltb}
+use lib.IntN.{ℤ}
+use lib.ListN.{length, drop, take, getD}
+use lib.Seq.{drop-cons}
+use Rattle.laws.specs.Cases.{or-left, or-right, true-or-false}
+use Rattle.laws.specs.Choice.{_if_else_}
+use Rattle.laws.specs.ChoiceLaws.{past, past-number}
+use Rattle.netlist.specs.Image.{nodes, channels}
+use Rattle.netlist.specs.Judge.{judge}
+use Rattle.engine.specs.declared.Ran.{Ran}
+use Rattle.engine.specs.declared.State.{State}
+use Rattle.engine.specs.declared.Stepped.{Stepped}
+use Rattle.engine.specs.declared.Taken.{Taken}
+use Rattle.engine.specs.State.{stateOf}
+use Rattle.engine.specs.Cycle.{stateAfter, after, lettersOf, valuesOf}
+use Rattle.engine.specs.Fits.{fits}
+use Rattle.engine.specs.Taken.{stateNumber, takeMore, takenFrom}
+use Rattle.engine.specs.Answer.{setsAbove, stepNumber, stepOf, stepAnswer, lettersWritten, valuesWritten, stepMore, ranFrom, runAnswer}
+
+-- ---- image and state
+module _ (img : List ℕ) (s : State) where
+  pub state-judge : (judge img ≡ 0 → ⊥) → judge img ≡ stateNumber img s
+  unfolding stateNumber
+  state-judge n = rw (ne-eqb (judge img) 0 n)
+
+  pub state-21 : judge img ≡ 0 → fits img s ≡ false → 21 ≡ stateNumber img s
+  unfolding stateNumber
+  state-21 j e = rw (j, e)
+
+  pub state-0 : judge img ≡ 0 → fits img s ≡ true → 0 ≡ stateNumber img s
+  unfolding stateNumber
+  state-0 j e = rw (j, e)
+
+  -- 0 says that the image is accepted and that the state fits
+  pub state-ok : stateNumber img s ≡ 0 → (judge img ≡ 0) × (fits img s ≡ true)
+  unfolding stateNumber
+  state-ok e =
+      let j = past-number (judge img) _ e in
+      (j .0, not-false (fits img s) (past 20 0 (not (fits img s)) (j .1) .0))
+
+  -- ---- the step's number goes on from there
+  module _ (word letters values : ℕ) where
+    pub number-state : (stateNumber img s ≡ 0 → ⊥) → stateNumber img s ≡ stepNumber img s word letters values
+    unfolding stateNumber stepNumber
+    number-state n = first (judge img) (fits img s) _ n
+      where
+        first : (j : ℕ) (f : Bool) (later : ℕ) → ((j if not (eqb j 0) else 21 if not f else 0) ≡ 0 → ⊥)
+            → (j if not (eqb j 0) else 21 if not f else 0) ≡ (j if not (eqb j 0) else 21 if not f else later)
+        first j false later n = refl
+        first zero true later n = absurd (n refl)
+        first (suc j) true later n = rw (ne-eqb (suc j) 0 (λ e. omega arith))
+
+    number-rest :
+        stateNumber img s ≡ 0
+        → stepNumber img s word letters values ≡
+        (22 if eqb (s .cycles) 1000000 else 12 if setsAbove (nodes img) word else 13 if ltb letters (channels img) || ltb values (channels img) else 0)
+    unfolding stepNumber
+    number-rest e = let r = state-ok e in rw (r .0, r .1)
+
+    pub number-22 : stateNumber img s ≡ 0 → s .cycles ≡ 1000000 → 22 ≡ stepNumber img s word letters values
+    number-22 e d = rw (number-rest e, eq-eqb (s .cycles) 1000000 d)
+
+    pub number-12 : stateNumber img s ≡ 0 → (s .cycles ≡ 1000000 → ⊥) → setsAbove (nodes img) word ≡ true → 12 ≡ stepNumber img s word letters values
+    number-12 e d w = rw (number-rest e, ne-eqb (s .cycles) 1000000 d, w)
+
+    pub number-last :
+        stateNumber img s ≡ 0 → (s .cycles ≡ 1000000 → ⊥) → setsAbove (nodes img) word ≡ false
+        → (13 if ltb letters (channels img) || ltb values (channels img) else 0) ≡ stepNumber img s word letters values
+    number-last e d w = rw (number-rest e, ne-eqb (s .cycles) 1000000 d, w)
+
+    -- 0 says that nothing stands in the way of a cycle
+    pub number-ok :
+        stepNumber img s word letters values ≡ 0
+        → (stateNumber img s ≡ 0) × (s .cycles ≡ 1000000 → ⊥) × (setsAbove (nodes img) word ≡ false) × (channels img ≤ letters) × (channels img ≤ values)
+    unfolding stepNumber
+    number-ok e =
+        let short = ltb letters (channels img) in
+        let j = past-number (judge img) _ e in
+        let f = past 20 _ (not (fits img s)) (j .1) in
+        let d = past 21 _ (eqb (s .cycles) 1000000) (f .1) in
+        let w = past 11 _ (setsAbove (nodes img) word) (d .1) in
+        let r = past 12 0 (short || ltb values (channels img)) (w .1) in (
+          sym (state-0 (j .0) (not-false (fits img s) (f .0))),
+          (λ q. true≢false (sym (eq-eqb (s .cycles) 1000000 q) ∙ d .0)),
+          w .0,
+          ltb-false letters (channels img) (or-left short (ltb values (channels img)) (r .0)),
+          ltb-false values (channels img) (or-right short (ltb values (channels img)) (r .0)),
+        )
+
+-- ---- the step's answer
+module _ (img : List ℕ) (s : State) (word : ℕ) (letters : List ℕ) (values : List ℤ) where
+  pub step-none :
+      (number : ℕ) → number ≡ stepOf img s word letters values → (number ≡ 0 → ⊥)
+      → (record { number = number; state = s } ≡ stepAnswer img s word letters values) × (letters ≡ lettersWritten img s word letters values) ×
+      (values ≡ valuesWritten img s word letters values)
+  unfolding stepAnswer lettersWritten valuesWritten
+  step-none number e n = let q = ne-eqb number 0 n in rw (← e, q) (refl, refl, refl)
+
+  pub step-made :
+      (number : ℕ) → number ≡ stepOf img s word letters values → number ≡ 0
+      → (record { number = number; state = stateAfter img word s } ≡ stepAnswer img s word letters values) ×
+      ((lettersOf img s ++ drop (channels img) letters) ≡ lettersWritten img s word letters values) ×
+      ((valuesOf img s ++ drop (channels img) values) ≡ valuesWritten img s word letters values)
+  unfolding stepAnswer lettersWritten valuesWritten
+  step-made number e n = let q = eq-eqb number 0 n in rw (← e, q) (refl, refl, refl)
+
+-- ---- the run
+-- the words taken, and the state after their cycles, are the run
+pub ran-taken :
+    (img : List ℕ) (words : List ℕ) (s : State)
+    → let t = takenFrom (nodes img) (s .cycles) words in
+    record { steps = t .steps; number = t .number; state = after img s (take (t .steps) words) } ≡ ranFrom img s words
+unfolding takenFrom ranFrom after takeMore stepMore stateAfter stateOf
+ran-taken img [] s = refl
+ran-taken img (word ∷ words) s = go (eqb (s .cycles) 1000000) (setsAbove (nodes img) word) (ran-taken img words (stateAfter img word s))
+  where
+    t : Taken
+    t = takenFrom (nodes img) (suc (s .cycles)) words
+
+    go :
+        (a b : Bool) → record { steps = t .steps; number = t .number; state = after img (stateAfter img word s) (take (t .steps) words) } ≡ ranFrom img (stateAfter img word s) words
+        → let u = record { steps = 0; number = 22 } if a else record { steps = 0; number = 12 } if b else takeMore t in
+        record { steps = u .steps; number = u .number; state = after img s (take (u .steps) (word ∷ words)) } ≡
+        (record { steps = 0; number = 22; state = s } if a else record { steps = 0; number = 12; state = s } if b else
+        stepMore (ranFrom img (stateAfter img word s) words))
+    go true b e = refl
+    go false true e = refl
+    go false false e = ap stepMore e

@@ -1,0 +1,82 @@
+-- The fresh state, filled node by node and channel by channel. Assumes nothing.
+use mathlib.Core.List.{List, []}
+use mathlib.Core.Path.{_≡_, refl, sym, ap, _∙_}
+use Prim.Native.Nat.{ℕ, zero, suc, _*_, _/_, _%_, _<_, _≤_}
+use native.Mathlib.Omega.{arith}
+use lib.IntN.{ℤ}
+use lib.ListN.{length, getD, set, replicate, length-replicate, getD-replicate}
+use Rattle.laws.specs.Lists.{padded}
+use Rattle.laws.specs.Table.{table}
+use Rattle.laws.specs.TableLaws.{padded-table}
+use Rattle.netlist.specs.Image.{nodes, channels, parameter, stations}
+use Rattle.netlist.specs.Accepted.{Accepted}
+use Rattle.relay.specs.Station.{stationOf}
+use Rattle.shell.specs.Queue.{queueOf}
+use Rattle.engine.specs.declared.Node.{Node}
+use Rattle.engine.specs.declared.State.{State}
+use Rattle.engine.specs.State.{noNode, stateOf}
+use Rattle.engine.specs.Fresh.{freshState, zeros}
+use Rattle.engine.specs.FitsLaws.{padded-own}
+
+-- for laws: a table of nothing but d, padded with d
+pub padded-same : {A : Type 0} (f : ℕ → A) (n m : ℕ) (d : A) → n ≤ m → ((i : ℕ) → i < n → f i ≡ d) → replicate m d ≡ padded m d (table f n)
+padded-same f n m d few same =
+    padded-own f n m d d few (replicate m d) (length-replicate m d)
+    (λ i h. getD-replicate m i d d (omega arith) ∙ sym (same i h)) (λ i h l. getD-replicate m i d d l)
+
+-- for laws
+empty-at : {A : Type 0} (n i : ℕ) → getD (replicate {A = List A} n []) i [] ≡ []
+empty-at zero i = refl
+empty-at (suc n) zero = refl
+empty-at (suc n) (suc i) = empty-at n i
+
+-- a fresh node
+unfoldable pub freshNode : List ℕ → ℕ → Node
+freshNode img n = record { value = parameter img n; firings = 0 }
+
+-- the first n nodes and the first c marks are set, and the rest is 0
+unfoldable pub filled : List ℕ → ℕ → ℕ → State
+filled img n c =
+    record {
+      cycles = 0;
+      nodes = padded 64 noNode (table (freshNode img) n);
+      pending = padded 96 0 (table (λ k. 1) c);
+      stations = replicate 768 (stationOf []);
+      queues = replicate 96 (queueOf []);
+    }
+
+module _ (img : List ℕ) where
+  pub filled-none : zeros ≡ filled img 0 0
+  unfolding zeros filled padded table
+  filled-none = refl
+
+  -- one more node, and one more mark
+  pub filled-node :
+      (n c : ℕ) → n < 64 → (s : State) → s ≡ filled img n c → (v : ℤ) → v ≡ parameter img n
+      → record {
+        cycles = s .cycles;
+        nodes = set (s .nodes) n (record { value = v; firings = 0 });
+        pending = s .pending;
+        stations = s .stations;
+        queues = s .queues;
+      }
+      ≡ filled img (suc n) c
+  unfolding filled freshNode
+  filled-node n c h s e v q = rw (e, q, padded-table (freshNode img) n 64 noNode h)
+
+  pub filled-mark :
+      (n c : ℕ) → c < 96 → (s : State) → s ≡ filled img n c
+      → record { cycles = s .cycles; nodes = s .nodes; pending = set (s .pending) c 1; stations = s .stations; queues = s .queues }
+      ≡ filled img n (suc c)
+  unfolding filled
+  filled-mark n c h s e = rw (e, padded-table {A = ℕ} (λ k. 1) c 96 0 h)
+
+  -- with all of them it is the fresh state
+  pub filled-all : Accepted img → filled img (nodes img) (channels img) ≡ freshState img
+  unfolding filled freshNode freshState stateOf
+  filled-all a =
+      rw (
+        padded-same (λ i. stationOf (getD (replicate (stations img (i / 8)) []) (i % 8) [])) (8 * channels img) 768 (stationOf [])
+            (omega (arith, a .few-channels)) (λ i h. ap stationOf (empty-at (stations img (i / 8)) (i % 8))),
+        padded-same (λ c. queueOf []) (channels img) 96 (queueOf []) (a .few-channels) (λ c h. refl),
+      )
