@@ -3,6 +3,7 @@ use mathlib.Core.List.{List, []}
 use mathlib.Core.Path.{_≡_, refl, sym, ap, _∙_}
 use Prim.Native.Nat.{ℕ, zero, suc, _*_, _/_, _%_, _<_, _≤_}
 use native.Mathlib.Omega.{arith}
+use borrow.Author.Tests.{ne-eqb}
 use lib.IntN.{ℤ}
 use lib.ListN.{length, getD, set, replicate, length-replicate, getD-replicate}
 use Rattle.laws.specs.Lists.{padded}
@@ -10,12 +11,15 @@ use Rattle.laws.specs.Table.{table}
 use Rattle.laws.specs.TableLaws.{padded-table}
 use Rattle.netlist.specs.Image.{nodes, channels, parameter, stations}
 use Rattle.netlist.specs.Accepted.{Accepted}
+use Rattle.netlist.specs.Judge.{judge}
+use Rattle.relay.specs.declared.Station.{Station}
 use Rattle.relay.specs.Station.{stationOf}
+use Rattle.shell.specs.declared.Queue.{Queue}
 use Rattle.shell.specs.Queue.{queueOf}
 use Rattle.engine.specs.declared.Node.{Node}
 use Rattle.engine.specs.declared.State.{State}
 use Rattle.engine.specs.State.{noNode, stateOf}
-use Rattle.engine.specs.Fresh.{freshState, zeros}
+use Rattle.engine.specs.Fresh.{freshState, zeros, freshAnswer}
 use Rattle.engine.specs.FitsLaws.{padded-own}
 
 -- for laws: a table of nothing but d, padded with d
@@ -80,3 +84,23 @@ module _ (img : List ℕ) where
             (omega (arith, a .few-channels)) (λ i h. ap stationOf (empty-at (stations img (i / 8)) (i % 8))),
         padded-same (λ c. queueOf []) (channels img) 96 (queueOf []) (a .few-channels) (λ c h. refl),
       )
+
+-- ---- what the code builds
+-- zeros, from an empty station and an empty queue
+pub zeros-of :
+    (station : Station) (queue : Queue) → station ≡ stationOf [] → queue ≡ queueOf []
+    → record { cycles = 0; nodes = replicate 64 noNode; pending = replicate 96 0; stations = replicate 768 station; queues = replicate 96 queue }
+    ≡ zeros
+unfolding zeros
+zeros-of station queue e q = rw (e, q)
+
+-- the two answers, by the judge's number
+pub fresh-refused :
+    (img : List ℕ) (number : ℕ) (s : State) → number ≡ judge img → s ≡ zeros → (judge img ≡ 0 → ⊥)
+    → record { number = number; state = s } ≡ freshAnswer img
+unfolding freshAnswer
+fresh-refused img number s e z ne = rw (e, z, ne-eqb (judge img) 0 ne)
+
+pub fresh-made : (img : List ℕ) (s : State) → judge img ≡ 0 → s ≡ freshState img → record { number = 0; state = s } ≡ freshAnswer img
+unfolding freshAnswer
+fresh-made img s e z = rw (z, e)
