@@ -1,11 +1,11 @@
 -- The fresh state, filled node by node and channel by channel. Assumes nothing.
 use mathlib.Core.List.{List, []}
-use mathlib.Core.Path.{_≡_, refl, sym, ap, _∙_}
-use Prim.Native.Nat.{ℕ, zero, suc, _*_, _/_, _%_, _<_, _≤_}
+use mathlib.Core.Path.{_≡_, refl, ap}
+use Prim.Native.Nat.{ℕ, suc, _*_, _/_, _%_, _<_}
 use native.Mathlib.Omega.{arith}
 use borrow.Author.Tests.{ne-eqb}
 use lib.IntN.{ℤ}
-use lib.ListN.{length, getD, set, replicate, length-replicate, getD-replicate}
+use lib.ListN.{getD, set, replicate}
 use Rattle.laws.specs.Lists.{padded}
 use Rattle.laws.specs.Table.{table}
 use Rattle.laws.specs.TableLaws.{padded-table}
@@ -20,19 +20,7 @@ use Rattle.engine.specs.declared.Node.{Node}
 use Rattle.engine.specs.declared.State.{State}
 use Rattle.engine.specs.State.{noNode, stateOf}
 use Rattle.engine.specs.Fresh.{freshState, zeros, freshAnswer}
-use Rattle.engine.specs.FitsLaws.{padded-own}
-
--- for laws: a table of nothing but d, padded with d
-pub padded-same : {A : Type 0} (f : ℕ → A) (n m : ℕ) (d : A) → n ≤ m → ((i : ℕ) → i < n → f i ≡ d) → replicate m d ≡ padded m d (table f n)
-padded-same f n m d few same =
-    padded-own f n m d d few (replicate m d) (length-replicate m d)
-    (λ i h. getD-replicate m i d d (omega arith) ∙ sym (same i h)) (λ i h l. getD-replicate m i d d l)
-
--- for laws
-empty-at : {A : Type 0} (n i : ℕ) → getD (replicate {A = List A} n []) i [] ≡ []
-empty-at zero i = refl
-empty-at (suc n) zero = refl
-empty-at (suc n) (suc i) = empty-at n i
+use Rattle.engine.specs.MoreLaws.{padded-same, replicate-all}
 
 -- a fresh node
 unfoldable pub freshNode : List ℕ → ℕ → Node
@@ -81,7 +69,7 @@ module _ (img : List ℕ) where
   filled-all a =
       rw (
         padded-same (λ i. stationOf (getD (replicate (stations img (i / 8)) []) (i % 8) [])) (8 * channels img) 768 (stationOf [])
-            (omega (arith, a .few-channels)) (λ i h. ap stationOf (empty-at (stations img (i / 8)) (i % 8))),
+            (omega (arith, a .few-channels)) (λ i h. ap stationOf (replicate-all (stations img (i / 8)) (i % 8) [])),
         padded-same (λ c. queueOf []) (channels img) 96 (queueOf []) (a .few-channels) (λ c h. refl),
       )
 
