@@ -1,33 +1,28 @@
 -- The passes of number 21 together are its definition. Assumes nothing.
-use mathlib.Core.Bool.{Bool, true, false, _&&_, _||_}
+use mathlib.Core.Bool.{Bool, true, _&&_}
 use mathlib.Core.List.{List}
 use mathlib.Core.Logic.{_↔_, ⊎-elim}
-use mathlib.Core.Path.{_≡_, refl, sym}
+use mathlib.Core.Path.{_≡_}
 use Prim.Native.Nat.{ℕ, _<_, _≤_}
 use native.Mathlib.Omega.{arith}
-use lib.Dec.{eqb, leb, ltb}
+use lib.Dec.{leb}
 use Rattle.laws.specs.Cases.{lt-or-ge}
-use Rattle.laws.specs.Signed.{isZero}
 use Rattle.netlist.specs.Image.{nodes, channels, depth}
 use Rattle.netlist.specs.Accepted.{Accepted}
 use Rattle.engine.specs.declared.State.{State}
-use Rattle.engine.specs.State.{nodeAt, valueAt, firingsAt, markAt, queueAt}
+use Rattle.engine.specs.State.{firingsAt, markAt, queueAt}
 use Rattle.engine.specs.Fits.{cyclesFit, stationsFit, nodeClear, balanced, fits}
 use Rattle.engine.specs.FitsPasses.{nodeFits, nodesFit, channelFits, channelsFit, channelClear, channelsClear}
-use Rattle.engine.specs.FitsLaws.{le-iff, and-iff, all-iff, cycles-say, stations-say, node-says, channel-says, balance-says, Places, fits-iff}
+use Rattle.engine.specs.MoreLaws.{le-iff, and-iff, all-iff, test-same}
+use Rattle.engine.specs.Places.{Places, cycles-say, counts-say, node-says, channel-says, balance-says, fits-iff}
 
--- for laws: tests that hold together are the same
-pub test-same : (a b : Bool) → (a ≡ true → b ≡ true) → (b ≡ true → a ≡ true) → a ≡ b
-test-same true b f g = sym (f refl)
-test-same false true f g = g refl
-test-same false false f g = refl
-
-module _ (img : List ℕ) (s : State) where
-  pub passes-fit : Accepted img → (cyclesFit img s && nodesFit img s && channelsFit img s && channelsClear img s) ≡ fits img s
-  unfolding nodeClear nodeFits nodesFit channelFits channelsFit channelClear channelsClear
-  passes-fit a =
+module _ (img : List ℕ) (a : Accepted img) (s : State) where
+  -- where no node is, its firings are 0, and so within the cycle count
+  passes-iff : ((cyclesFit img s && nodesFit img s && channelsFit img s && channelsClear img s) ≡ true) ↔ Places img s
+  unfolding nodeClear nodeFits nodesFit channelFits channelsFit channelsClear
+  passes-iff =
       let node : ℕ → Bool = λ n. leb (firingsAt s n) (s .cycles) && nodeClear img s n in
-      let counts : ℕ → Bool = λ c. stationsFit img s c && leb (queueAt s c .count) (depth img c) in
+      let within : ℕ → Bool = λ c. stationsFit img s c && leb (queueAt s c .count) (depth img c) in
       let says =
       and-iff (cyclesFit img s && nodesFit img s && channelsFit img s) (channelsClear img s)
       (and-iff (cyclesFit img s && nodesFit img s) (channelsFit img s)
@@ -35,38 +30,33 @@ module _ (img : List ℕ) (s : State) where
       (all-iff node 64 (λ n. and-iff (leb (firingsAt s n) (s .cycles)) (nodeClear img s n) (le-iff (firingsAt s n) (s .cycles)) (node-says img s n))))
       (all-iff (channelFits img s) (channels img)
       (λ c.
-      and-iff (leb (markAt s c) 1 && counts c) (balanced img s c)
-      (and-iff (leb (markAt s c) 1) (counts c) (le-iff (markAt s c) 1)
-      (and-iff (stationsFit img s c) (leb (queueAt s c .count) (depth img c)) (stations-say img s c) (le-iff (queueAt s c .count) (depth img c))))
-      (balance-says img s c))))
-      (all-iff (channelClear img s) 96 (channel-says img s)) in
-      test-same _ _
-      (λ e.
-      let p = says .0 e in
-      fits-iff img s .1
-      record {
-        cycled = p .0 .0 .0;
-        fired = λ n h. p .0 .0 .1 n (omega (arith, a .few-nodes)) .0;
-        marks = λ c h. p .0 .1 c h .0 .0;
-        counts = λ c h. p .0 .1 c h .0 .1;
-        node = λ n h. p .0 .0 .1 n h .1;
-        mark = λ c h. p .1 c h .0 .0;
-        station = λ c h. p .1 c h .0 .1;
-        queue = λ c h. p .1 c h .1;
-        balance = λ c h. p .0 .1 c h .1;
-      })
-      (λ e.
-      let p = fits-iff img s .0 e in
-      says .1 (
-        (
-          (
-            p .cycled,
-            λ n h. (
-              ⊎-elim (λ (l : n < nodes img). p .fired n l) (λ (l : nodes img ≤ n). omega (arith, p .node n h l .1)) (lt-or-ge n (nodes img)),
-              p .node n h,
+      and-iff (leb (markAt s c) 1 && within c) (balanced img s c)
+      (and-iff (leb (markAt s c) 1) (within c) (le-iff (markAt s c) 1) (counts-say img s c)) (balance-says img s c))))
+      (all-iff (channelClear img s) 96 (channel-says img s)) in (
+        λ e.
+            let p = says .0 e in
+            let nodes = p .0 .0 .1 in
+            let used = p .0 .1 in
+            let clear = p .1 in
+            record {
+              cycled = p .0 .0 .0;
+              fired = λ n h. nodes n (omega (arith, a .few-nodes)) .0;
+              marks = λ c h. used c h .0 .0;
+              counts = λ c h. used c h .0 .1;
+              node = λ n h. nodes n h .1;
+              mark = λ c h. clear c h .0 .0;
+              station = λ c h. clear c h .0 .1;
+              queue = λ c h. clear c h .1;
+              balance = λ c h. used c h .1;
+            },
+        λ p.
+            let few : (n : ℕ) → n < 64 → firingsAt s n ≤ s .cycles =
+            λ n h. ⊎-elim (λ (l : n < nodes img). p .fired n l) (λ (l : nodes img ≤ n). omega (arith, p .node n h l .1)) (lt-or-ge n (nodes img)) in
+            says .1 (
+              ((p .cycled, λ n h. (few n h, p .node n h)), λ c h. ((p .marks c h, p .counts c h), p .balance c h)),
+              λ c h. ((p .mark c h, p .station c h), p .queue c h),
             ),
-          ),
-          λ c h. ((p .marks c h, p .counts c h), p .balance c h),
-        ),
-        λ c h. ((p .mark c h, p .station c h), p .queue c h),
-      ))
+      )
+
+  pub passes-fit : (cyclesFit img s && nodesFit img s && channelsFit img s && channelsClear img s) ≡ fits img s
+  passes-fit = test-same (cyclesFit img s && nodesFit img s && channelsFit img s && channelsClear img s) (fits img s) passes-iff (fits-iff img s)

@@ -1,34 +1,26 @@
 -- The fresh state, filled node by node and channel by channel. Assumes nothing.
 use mathlib.Core.List.{List, []}
-use mathlib.Core.Path.{_≡_, refl, sym, ap, _∙_}
-use Prim.Native.Nat.{ℕ, zero, suc, _*_, _/_, _%_, _<_, _≤_}
+use mathlib.Core.Path.{_≡_, refl, ap}
+use Prim.Native.Nat.{ℕ, suc, _*_, _/_, _%_, _<_}
 use native.Mathlib.Omega.{arith}
+use borrow.Author.Tests.{ne-eqb}
 use lib.IntN.{ℤ}
-use lib.ListN.{length, getD, set, replicate, length-replicate, getD-replicate}
+use lib.ListN.{getD, set, replicate}
 use Rattle.laws.specs.Lists.{padded}
 use Rattle.laws.specs.Table.{table}
 use Rattle.laws.specs.TableLaws.{padded-table}
 use Rattle.netlist.specs.Image.{nodes, channels, parameter, stations}
 use Rattle.netlist.specs.Accepted.{Accepted}
+use Rattle.netlist.specs.Judge.{judge}
+use Rattle.relay.specs.declared.Station.{Station}
 use Rattle.relay.specs.Station.{stationOf}
+use Rattle.shell.specs.declared.Queue.{Queue}
 use Rattle.shell.specs.Queue.{queueOf}
 use Rattle.engine.specs.declared.Node.{Node}
 use Rattle.engine.specs.declared.State.{State}
 use Rattle.engine.specs.State.{noNode, stateOf}
-use Rattle.engine.specs.Fresh.{freshState, zeros}
-use Rattle.engine.specs.FitsLaws.{padded-own}
-
--- for laws: a table of nothing but d, padded with d
-pub padded-same : {A : Type 0} (f : ℕ → A) (n m : ℕ) (d : A) → n ≤ m → ((i : ℕ) → i < n → f i ≡ d) → replicate m d ≡ padded m d (table f n)
-padded-same f n m d few same =
-    padded-own f n m d d few (replicate m d) (length-replicate m d)
-    (λ i h. getD-replicate m i d d (omega arith) ∙ sym (same i h)) (λ i h l. getD-replicate m i d d l)
-
--- for laws
-empty-at : {A : Type 0} (n i : ℕ) → getD (replicate {A = List A} n []) i [] ≡ []
-empty-at zero i = refl
-empty-at (suc n) zero = refl
-empty-at (suc n) (suc i) = empty-at n i
+use Rattle.engine.specs.Fresh.{freshState, zeros, freshAnswer}
+use Rattle.engine.specs.MoreLaws.{padded-same, replicate-all}
 
 -- a fresh node
 unfoldable pub freshNode : List ℕ → ℕ → Node
@@ -77,6 +69,26 @@ module _ (img : List ℕ) where
   filled-all a =
       rw (
         padded-same (λ i. stationOf (getD (replicate (stations img (i / 8)) []) (i % 8) [])) (8 * channels img) 768 (stationOf [])
-            (omega (arith, a .few-channels)) (λ i h. ap stationOf (empty-at (stations img (i / 8)) (i % 8))),
+            (omega (arith, a .few-channels)) (λ i h. ap stationOf (replicate-all (stations img (i / 8)) (i % 8) [])),
         padded-same (λ c. queueOf []) (channels img) 96 (queueOf []) (a .few-channels) (λ c h. refl),
       )
+
+-- ---- what the code builds
+-- zeros, from an empty station and an empty queue
+pub zeros-of :
+    (station : Station) (queue : Queue) → station ≡ stationOf [] → queue ≡ queueOf []
+    → record { cycles = 0; nodes = replicate 64 noNode; pending = replicate 96 0; stations = replicate 768 station; queues = replicate 96 queue }
+    ≡ zeros
+unfolding zeros
+zeros-of station queue e q = rw (e, q)
+
+-- the two answers, by the judge's number
+pub fresh-refused :
+    (img : List ℕ) (number : ℕ) (s : State) → number ≡ judge img → s ≡ zeros → (judge img ≡ 0 → ⊥)
+    → record { number = number; state = s } ≡ freshAnswer img
+unfolding freshAnswer
+fresh-refused img number s e z ne = rw (e, z, ne-eqb (judge img) 0 ne)
+
+pub fresh-made : (img : List ℕ) (s : State) → judge img ≡ 0 → s ≡ freshState img → record { number = 0; state = s } ≡ freshAnswer img
+unfolding freshAnswer
+fresh-made img s e z = rw (z, e)

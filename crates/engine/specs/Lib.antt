@@ -10,6 +10,7 @@ pub mod Answer
 pub mod Done
 -- a state that fits, as facts; tokens counted
 pub mod Fitting
+pub mod Places
 pub mod FitsLaws
 pub mod FittingLaws
 pub mod Counters
@@ -24,3 +25,4 @@ pub mod FitsPassesLaws
 pub mod Taken
 pub mod AnswerLaws
 pub mod Examples
+pub mod MoreLaws

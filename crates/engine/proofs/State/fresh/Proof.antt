@@ -2,10 +2,9 @@
 use mathlib.Core.Path.{_≡_}
 use native.Mathlib.Omega.{arith}
 use borrow.Author.Needs.{needs}
-use borrow.Author.Tests.{ne-eqb}
 use Rattle.netlist.specs.Judge.{judge}
 use Rattle.netlist.specs.AcceptedLaws.{accepted}
-use Rattle.engine.specs.Fresh.{freshAnswer}
+use Rattle.engine.specs.FreshLaws.{fresh-refused, fresh-made}
 use Rattle.engine.proofs.State.fresh.Statement.{statement}
 use Rattle.engine.proofs.State.fresh.Tie as tie
 
@@ -20,18 +19,16 @@ zeros-requires : tie.Need-zeros-requires
 zeros-requires c κs = search needs
 
 returns : tie.Need-returns
-unfolding freshAnswer
 returns c =
     let j = c .before .before in
-    let number = judge (j .before .before .args .image .now) in
-    rw (c .zeros .ensures, j .judge .ensures, ne-eqb number 0 (λ e. omega (arith, j .judge .ensures)))
+    fresh-refused (j .before .before .args .image .now) (j .judge .result) (c .zeros .result) (j .judge .ensures) (c .zeros .ensures)
+    (λ e. omega (arith, j .judge .ensures))
 
 started-requires : tie.Need-started-requires
 started-requires c κs = accepted (c .before .before .before .args .image .now) (ok c)
 
 returns-2 : tie.Need-returns-2
-unfolding freshAnswer
-returns-2 c = rw (c .started .ensures, ok (c .before))
+returns-2 c = fresh-made (c .before .before .before .before .args .image .now) (c .started .result) (ok (c .before)) (c .started .ensures)
 
 pub fresh-spec : {M : Type 1} → statement M
 fresh-spec = tie.close (tie.spec judge-requires zeros-requires returns started-requires returns-2)

@@ -1,6 +1,6 @@
 -- `engine::State::zeros` meets its contract. Assumes nothing.
 use borrow.Author.Needs.{needs}
-use Rattle.engine.specs.Fresh.{zeros}
+use Rattle.engine.specs.FreshLaws.{zeros-of}
 use Rattle.engine.proofs.State.zeros.Statement.{statement}
 use Rattle.engine.proofs.State.zeros.Tie as tie
 
@@ -11,8 +11,10 @@ empty-requires-2 : tie.Need-empty-requires-2
 empty-requires-2 c κs = search needs
 
 returns : tie.Need-returns
-unfolding zeros
-returns c = rw (c .empty2 .ensures, c .before .empty .ensures)
+returns c =
+    let s = c .before .empty in
+    let q = c .empty2 in
+    zeros-of (s .result) (q .result) (s .ensures) (q .ensures)
 
 pub zeros-spec : {M : Type 1} → statement M
 zeros-spec = tie.close (tie.spec empty-requires empty-requires-2 returns)

@@ -1,4 +1,5 @@
--- `engine::fits::channels_clear` meets its contract. The invariants: the channels below c are clear, and of channel c the stations below j. Assumes nothing.
+-- `engine::fits::channels_clear` meets its contract. The invariants: the channels below c are clear, and of channel c the stations below j.
+-- Assumes nothing.
 use mathlib.Core.Path.{_≡_, refl}
 use Prim.Native.Nat.{_≤_, _-_}
 use native.Mathlib.Numerals.{add-one}

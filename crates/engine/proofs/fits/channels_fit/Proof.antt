@@ -11,6 +11,7 @@ use mir.Val.{Fits}
 use Rattle.laws.specs.Below.{allBelow, sumBelow}
 use Rattle.netlist.specs.Image.{channels}
 use Rattle.netlist.specs.Readers.{channelAt}
+use Rattle.relay.specs.declared.Station.{Station}
 use Rattle.engine.specs.State.{nodeAt, markAt, stationAt, queueAt}
 use Rattle.engine.specs.Fits.{stationsFit, balanced}
 use Rattle.engine.specs.FitsPasses.{channelFits, channelsFit}
@@ -40,7 +41,9 @@ inside c = omega (arith, there c, c .before .before .before .before .pre .few-ch
 
 short : (c : tie.After-channel-at Inv-loop2 μ-loop2 Inv-loop μ-loop) → c .channel-at .result .stations ≤ 8
 unfolding channelAt
-short c = let s = c .before .before .before .before .before in rw (c .channel-at .ensures) (s .pre .rows (c .before .before .loop .c) (there (c .before)))
+short c =
+    let s = c .before .before .before .before .before in
+    rw (c .channel-at .ensures) (s .pre .rows (c .before .before .loop .c) (there (c .before)))
 
 ends : (c : tie.After-channel-at Inv-loop2 μ-loop2 Inv-loop μ-loop) → (c .channel-at .result .from < 64) × (c .channel-at .result .to < 64)
 unfolding channelAt
@@ -49,15 +52,16 @@ ends c =
     let w = s .pre .wires (c .before .before .loop .c) (there (c .before)) in
     rw (c .channel-at .ensures) (omega (arith, w .0, s .pre .few-nodes), omega (arith, w .1, s .pre .few-nodes))
 
--- a count is a byte
-count : (c : tie.After-struct-known2 Inv-loop2 μ-loop2 Inv-loop μ-loop) →
+-- the station of a turn; its count is a byte
+abbrev seen : tie.After-struct-known2 Inv-loop2 μ-loop2 Inv-loop μ-loop → Station
+seen c =
     let l2 = c .before .before .before .before in
-    stationAt (l2 .before .before .before .before .before .before .args .t2) (l2 .before .before .before .loop .c) (l2 .loop2 .j) .count < 2 ^ 8
+    let l = l2 .before .before .before in
+    stationAt (l .before .before .before .args .t2) (l .loop .c) (l2 .loop2 .j)
+
+count : (c : tie.After-struct-known2 Inv-loop2 μ-loop2 Inv-loop μ-loop) → seen c .count < 2 ^ 8
 unfolding stationAt
-count c =
-    let l2 = c .before .before .before .before in
-    let f : Fits w8 (stationAt (l2 .before .before .before .before .before .before .args .t2) (l2 .before .before .before .loop .c) (l2 .loop2 .j) .count) = search needs in
-    f .fits
+count c = let f : Fits w8 (seen c .count) = search needs in f .fits
 
 channels-requires : tie.Need-channels-requires Inv-loop2 μ-loop2 Inv-loop μ-loop
 channels-requires c κs = tt

@@ -1,14 +1,11 @@
 -- `engine::fits::clear_queue` meets its contract. The loop's invariant: the tokens looked at so far. Assumes nothing.
-use mathlib.Core.Bool.{_||_}
 use mathlib.Core.Path.{_≡_, refl}
 use Prim.Native.Nat.{_≤_, _-_}
 use native.Mathlib.Numerals.{add-one}
 use native.Mathlib.Omega.{arith}
-use lib.Dec.{ltb}
 use lib.IntN.{pos}
 use lib.ListN.{getD}
 use Rattle.laws.specs.Below.{allBelow}
-use Rattle.laws.specs.Signed.{isZero}
 use Rattle.laws.specs.SignedLaws.{told, zero-bits}
 use Rattle.engine.specs.Fits.{zeroFrom}
 use Rattle.engine.specs.FitsPasses.{clearQueue}

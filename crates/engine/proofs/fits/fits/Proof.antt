@@ -21,7 +21,7 @@ returns c =
     let k = u .before in
     let n = k .before in
     let s = n .before .before in
-    rw (u .channels-clear .ensures, k .channels-fit .ensures, n .nodes-fit .ensures) (passes-fit (s .args .image .now) (s .args .state) (s .pre))
+    rw (u .channels-clear .ensures, k .channels-fit .ensures, n .nodes-fit .ensures) (passes-fit (s .args .image .now) (s .pre) (s .args .state))
 
 pub fits-spec : {M : Type 1} → statement M
 fits-spec =
