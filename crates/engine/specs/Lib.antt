@@ -11,5 +11,6 @@ pub mod Fitting
 pub mod Counters
 pub mod FittingLaws
 pub mod CountersLaws
+pub mod FitsLaws
 pub mod Answer
 pub mod Examples
