@@ -13,4 +13,5 @@ pub mod FittingLaws
 pub mod CountersLaws
 pub mod FitsLaws
 pub mod Answer
+pub mod Done
 pub mod Examples
