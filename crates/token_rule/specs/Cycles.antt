@@ -8,11 +8,6 @@ use Rattle.laws.specs.Lists.{oneIf}
 use Rattle.engine.specs.declared.State.{State}
 use Rattle.engine.specs.Cycle.{seenAt, fires, stateAfter}
 
--- the state that the cycles with these words leave: "Each cycle is worked by the rules above on the state the cycle before left"
-unfoldable pub after : List ℕ → State → List ℕ → State
-after img s [] = s
-after img s (word ∷ words) = after img (stateAfter img word s) words
-
 -- "A node's firings are the cycles in which it fires by the rule."
 unfoldable pub firedIn : List ℕ → State → List ℕ → ℕ → ℕ
 firedIn img s [] n = 0

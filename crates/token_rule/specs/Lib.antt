@@ -1,6 +1,19 @@
 -- The token rule. A file NAME defines, and NAMELaws proves what others use instead of the definition's text.
+-- What a reader has to believe: the cycles and what they do, the calls and the cycles they make, R, and the statement.
 pub mod Cycles
-pub mod CyclesLaws
+pub mod Calls
 pub mod Progress
-pub mod ProgressLaws
+pub mod TokenRule
 pub mod Examples
+-- What the proof carries: stretches of the strict stream, and a sound state.
+pub mod Stretch
+pub mod StretchLaws
+pub mod Safety
+pub mod SafetyLaws
+pub mod ArrivalsLaws
+pub mod CyclesLaws
+pub mod ProgressLaws
+pub mod AnswersLaws
+pub mod CallsLaws
+-- The theorem.
+pub mod TokenRuleLaws

@@ -14,10 +14,10 @@ use Rattle.engine.specs.declared.State.{State}
 use Rattle.engine.specs.State.{firingsAt}
 use Rattle.engine.specs.Counters.{entered, Steady}
 use Rattle.engine.specs.CountersLaws.{entered-source, entered-taken, limit-taken, entered-next, enabled-fires}
-use Rattle.engine.specs.Cycle.{stalled, fires, stateAfter}
+use Rattle.engine.specs.Cycle.{stalled, fires, stateAfter, after}
 use Rattle.engine.specs.CycleLaws.{firings-next}
 use Rattle.engine.specs.FittingLaws.{steady-next}
-use Rattle.token_rule.specs.Cycles.{after, firedIn}
+use Rattle.token_rule.specs.Cycles.{firedIn}
 use Rattle.token_rule.specs.CyclesLaws.{firings-after}
 use Rattle.token_rule.specs.Progress.{mostBelow, mostStations, Furthest, Awake}
 
