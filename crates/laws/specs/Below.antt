@@ -1,7 +1,7 @@
 -- What a test or a count says of all numbers below n. Each definition goes by its last number, so that one turn of a loop that counts up is one
 -- step of it.
 use mathlib.Core.Bool.{Bool, true, false, _&&_, _||_}
-use Prim.Native.Nat.{ℕ, zero, suc, _+_}
+use Prim.Native.Nat.{ℕ, zero, suc, _+_, max}
 use Rattle.laws.specs.Choice.{_if_else_}
 
 -- f holds at every number below n
@@ -18,6 +18,11 @@ anyBelow f (suc n) = anyBelow f n || f n
 unfoldable pub sumBelow : (ℕ → ℕ) → ℕ → ℕ
 sumBelow f zero = 0
 sumBelow f (suc n) = sumBelow f n + f n
+
+-- the largest of f 0, f 1, .., f (n - 1), and 0 if there is none
+unfoldable pub mostBelow : (ℕ → ℕ) → ℕ → ℕ
+mostBelow f zero = 0
+mostBelow f (suc n) = max (mostBelow f n) (f n)
 
 -- f at the last number below n where the test holds, and d if it holds at none
 unfoldable pub pickBelow : {A : Type 0} → (ℕ → Bool) → (ℕ → A) → A → ℕ → A

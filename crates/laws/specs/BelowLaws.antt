@@ -1,12 +1,12 @@
--- Laws of `allBelow`, `anyBelow` and `sumBelow`. Assumes nothing.
+-- Laws of what is said of all numbers below n. Assumes nothing.
 use mathlib.Core.Path.{_≡_, refl, sym, _∙_}
 use mathlib.Core.Logic.{_↔_, ⊎-elim}
 use mathlib.Core.Bool.{Bool, true, false, not, or-true, or-false, Bool·not-not, false≢true}
-use Prim.Native.Nat.{ℕ, zero, suc, _<_}
+use Prim.Native.Nat.{ℕ, zero, suc, _<_, _≤_}
 use native.Mathlib.Nat.{not-suc-le-zero}
 use native.Mathlib.Omega.{arith}
 use Rattle.laws.specs.Choice.{_if_else_}
-use Rattle.laws.specs.Below.{allBelow, anyBelow, pickBelow}
+use Rattle.laws.specs.Below.{allBelow, anyBelow, sumBelow, mostBelow, pickBelow}
 use borrow.Author.Tests.{not-true, not-false}
 use Rattle.laws.specs.Cases.{true-or-false, or-left, or-right, not-or, below-suc}
 
@@ -50,6 +50,12 @@ all-any f (suc n) = rw (all-any f n, not-or, Bool·not-not)
 pub all-at : (f : ℕ → Bool) (k n : ℕ) → k < n → allBelow f n ≡ true → f k ≡ true
 all-at f k n h e = not-false (f k) (any-none (λ i. not (f i)) k n (not-true (anyBelow (λ i. not (f i)) n) (sym (all-any f n) ∙ e)) h)
 
+-- and the other way round
+pub all-from : (f : ℕ → Bool) (n : ℕ) → ((k : ℕ) → k < n → f k ≡ true) → allBelow f n ≡ true
+unfolding allBelow
+all-from f zero h = refl
+all-from f (suc n) h = rw (all-from f n (λ k l. h k (omega arith)), h n (omega arith))
+
 -- tests that agree below n find the same there
 pub any-same : (f g : ℕ → Bool) (n : ℕ) → ((k : ℕ) → k < n → f k ≡ g k) → anyBelow f n ≡ anyBelow g n
 unfolding anyBelow
@@ -59,6 +65,23 @@ any-same f g (suc n) h = rw (any-same f g n (λ k l. h k (omega arith)), h n (om
 -- a test that fails at each number where P holds, and only there, fails at all below n exactly if P holds at all of them
 pub none-iff : {P : ℕ → Type 0} (f : ℕ → Bool) (n : ℕ) → ((k : ℕ) → (f k ≡ false) ↔ P k) → (anyBelow f n ≡ false) ↔ ((k : ℕ) → k < n → P k)
 none-iff f n iff = (λ e k h. iff k .0 (any-none f k n e h), λ h. none-any f n (λ k l. iff k .1 (h k l)))
+
+-- the same of a test that holds where P does
+pub all-iff : {P : ℕ → Type 0} (f : ℕ → Bool) (n : ℕ) → ((k : ℕ) → (f k ≡ true) ↔ P k) → (allBelow f n ≡ true) ↔ ((k : ℕ) → k < n → P k)
+all-iff f n iff = (λ e k h. iff k .0 (all-at f k n h e), λ h. all-from f n (λ k l. iff k .1 (h k l)))
+
+-- ---- sums, and the largest
+-- counts that agree below n have the same sum
+pub sum-same : (f g : ℕ → ℕ) (n : ℕ) → ((k : ℕ) → k < n → f k ≡ g k) → sumBelow f n ≡ sumBelow g n
+unfolding sumBelow
+sum-same f g zero h = refl
+sum-same f g (suc n) h = rw (sum-same f g n (λ k l. h k (omega arith)), h n (omega arith))
+
+-- none is over the largest
+pub most-at : (f : ℕ → ℕ) (k n : ℕ) → k < n → f k ≤ mostBelow f n
+unfolding mostBelow
+most-at f k zero h = absurd (not-suc-le-zero h)
+most-at f k (suc n) h = ⊎-elim (λ (e : k ≡ n). rw e (omega arith)) (λ (l : k < n). omega (arith, most-at f k n l)) (below-suc h)
 
 -- ---- what is picked
 -- a pick is d, or f at a number below n: what holds of these holds of it

@@ -1,12 +1,18 @@
--- Laws of a chain of numbers, "14 if .. else 13 if .. else 0", whose answer is 0. Assumes nothing.
+-- Laws of choices between numbers. Assumes nothing.
 use mathlib.Core.Bool.{Bool, true, false, not}
 use mathlib.Core.Path.{_≡_, refl}
-use Prim.Native.Nat.{ℕ, zero, suc}
+use Prim.Native.Nat.{ℕ, zero, suc, _≤_}
 use native.Mathlib.Omega.{arith}
 use borrow.Author.Tests.{ne-eqb}
 use lib.Dec.{eqb}
 use Rattle.laws.specs.Choice.{_if_else_}
 
+-- a test, counted
+pub one-few : (b : Bool) → (1 if b else 0) ≤ 1
+one-few true = omega arith
+one-few false = omega arith
+
+-- ---- a chain, "14 if .. else 13 if .. else 0", whose answer is 0
 -- the first test has failed, and the rest of the chain answers 0
 pub past : (k later : ℕ) (test : Bool) → (suc k if test else later) ≡ 0 → (test ≡ false) × (later ≡ 0)
 past k later true e = absurd (omega arith)

@@ -4,12 +4,15 @@ pub mod ChoiceLaws
 pub mod Below
 pub mod BelowLaws
 pub mod Cases
+pub mod TestsLaws
 pub mod Range
 pub mod RangeLaws
 pub mod Lists
 pub mod ListsLaws
 pub mod Table
 pub mod TableLaws
+pub mod Stretch
+pub mod StretchLaws
 pub mod Signed
 pub mod SignedLaws
 pub mod Examples

@@ -6,11 +6,15 @@ use mathlib.Core.Path.{_≡_, refl, ap, sym, _∙_}
 use Prim.Native.Nat.{ℕ, zero, suc, _+_, _-_, _<_, _≤_, min}
 use native.Mathlib.Numerals.{add-one}
 use native.Mathlib.Omega.{arith}
+use borrow.Author.Tests.{le-leb}
+use lib.Dec.{leb}
 use lib.ListN.{length, getD, take, drop, set, replicate, length-append, length-take, drop-of-length-le}
 use lib.ListN.{List·getD-append, List·getD-eq-default, length-replicate, replicate-append-replicate}
 use lib.Seq.{take-all, take-length, drop-length, take-append-seam, set-append-seam, append-snoc, getD-append-add, getD-take, ext-getD}
 use Rattle.laws.specs.Cases.{lt-or-ge}
-use Rattle.laws.specs.Lists.{holds, oneIf, dropIf, padded, Stored}
+use Rattle.laws.specs.Choice.{_if_else_}
+use Rattle.laws.specs.ChoiceLaws.{one-few}
+use Rattle.laws.specs.Lists.{holds, holdsTwo, oneIf, dropIf, padded, Stored}
 
 module _ {A : Type 0} where
   -- what is dropped comes from the first of two lists, where that has an element
@@ -24,9 +28,29 @@ module _ {A : Type 0} where
   length-dropIf true [] = omega arith
   length-dropIf true (x ∷ xs) = omega arith
 
+  -- and it is one
+  pub length-dropped : (b : Bool) (xs : List A) → (b ≡ true → holds xs ≡ true) → length (dropIf b xs) + (1 if b else 0) ≡ length xs
+  length-dropped false xs h = omega arith
+  length-dropped true [] h = absurd (false≢true (h refl))
+  length-dropped true (x ∷ xs) h = omega arith
+
+  -- one element or none
+  pub length-oneIf : (b : Bool) (x : A) → length (oneIf b x) ≡ (1 if b else 0)
+  length-oneIf true x = refl
+  length-oneIf false x = refl
+
   pub oneIf-few : (b : Bool) (x : A) → length (oneIf b x) ≤ 1
-  oneIf-few true x = omega arith
-  oneIf-few false x = omega arith
+  oneIf-few b x = rw (length-oneIf b x) (one-few b)
+
+  pub holds-one : (b : Bool) (x : A) → holds (oneIf b x) ≡ b
+  holds-one true x = refl
+  holds-one false x = refl
+
+  -- two elements or more
+  pub two-count : (xs : List A) → holdsTwo xs ≡ leb 2 (length xs)
+  two-count [] = refl
+  two-count (x ∷ []) = refl
+  two-count (x ∷ y ∷ xs) = sym (le-leb 2 (suc (suc (length xs))) (omega arith))
 
   -- past its end a list has no more
   pub take-min : (n : ℕ) (xs : List A) → take n xs ≡ take (min n (length xs)) xs
@@ -52,7 +76,8 @@ module _ {A : Type 0} where
   unfolding padded
   take-padded n d xs = take-append-seam xs (replicate (n - length xs) d)
 
-  replicate-rest : (n k : ℕ) (d : A) → getD (replicate n d) k d ≡ d
+  -- every element of n times d is d, past the end too
+  pub replicate-rest : (n k : ℕ) (d : A) → getD (replicate n d) k d ≡ d
   replicate-rest zero k d = refl
   replicate-rest (suc n) zero d = refl
   replicate-rest (suc n) (suc k) d = replicate-rest n k d

@@ -1,7 +1,7 @@
 -- Laws of signed numbers in words of 32 and 64 bits: what proofs say of `toZ w (ofZ w z)`. Assumes nothing.
 use mathlib.Core.Path.{_≡_, refl, sym, ap, _∙_}
 use mathlib.Core.Bool.{true, false, true≢false}
-use mathlib.Core.Logic.{⊎-elim}
+use mathlib.Core.Logic.{_↔_, ⊎-elim}
 use Prim.Native.Nat.{ℕ, suc, _-_, _^_, _<_, _≤_}
 use native.Mathlib.Nat.{zero-add}
 use native.Mathlib.Omega.{arith}
@@ -67,6 +67,9 @@ pub zero-bits : (z : ℤ) → SFits w32 z → eqb (ofZ w32 z) 0 ≡ isZero z
 zero-bits (pos n) f = refl
 zero-bits (negsuc n) f = let h : n < 2 ^ 31 = f .sfits in ne-eqb (2 ^ 32 - suc n) 0 (λ e. omega arith)
 
-pub zero-is : (z : ℤ) → isZero z ≡ true → z ≡ pos 0
+zero-is : (z : ℤ) → isZero z ≡ true → z ≡ pos 0
 zero-is (pos n) e = ap pos (eqb-true n 0 e)
 zero-is (negsuc n) e = absurd (true≢false (sym e))
+
+pub zero-iff : (z : ℤ) → (isZero z ≡ true) ↔ (z ≡ pos 0)
+zero-iff z = (zero-is z, λ e. rw e)

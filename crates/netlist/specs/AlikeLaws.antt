@@ -1,11 +1,15 @@
 -- Images that differ in no byte before their depths have the same nodes on the same wires. Assumes nothing.
 use mathlib.Core.List.{List}
-use mathlib.Core.Path.{_≡_}
+use mathlib.Core.Path.{_≡_, refl}
 use Prim.Native.Nat.{ℕ, _<_, _+_, _*_}
 use native.Mathlib.Omega.{arith}
 use lib.ListN.{getD}
 use Rattle.netlist.specs.Image.{nodes, channels, kind, parameter, wire, from, to, port, depths}
 use Rattle.netlist.specs.Alike.{SameButDepths, Alike}
+
+-- an image is like itself
+pub alike-same : (img : List ℕ) → Alike img img
+alike-same img = record { sizes = (refl, refl); cores = λ n h. (refl, refl); wires = λ c h. (refl, refl, refl) }
 
 pub bytes-alike : (img jmg : List ℕ) → SameButDepths img jmg → Alike img jmg
 unfolding nodes channels kind parameter wire from to port depths

@@ -5,12 +5,12 @@ use mathlib.Core.Logic.{_↔_, ⊎-elim}
 use mathlib.Core.Path.{_≡_, sym, _∙_}
 use Prim.Native.Nat.{ℕ, zero, suc, _≤_, _<_}
 use native.Mathlib.Omega.{arith}
-use borrow.Author.Tests.{eqb-true, eq-eqb}
 use lib.Dec.{eqb}
 use lib.ListN.{length, getD, length-set, length-replicate, getD-replicate}
 use lib.Seq.{getD-set-same, getD-set-other}
 use Rattle.laws.specs.Below.{pickBelow}
-use Rattle.laws.specs.Cases.{true-or-false, and-left, and-right}
+use Rattle.laws.specs.Cases.{true-or-false}
+use Rattle.laws.specs.TestsLaws.{eq-iff, and-iff}
 use Rattle.netlist.specs.Image.{to, port, feeds}
 use Rattle.netlist.specs.Ports.{portPlace, Wired, portsBelow}
 
@@ -18,12 +18,7 @@ module _ (img : List ℕ) where
   -- channel c feeds port p of node n
   pub feeds-ok : (n p c : ℕ) → (feeds img n p c ≡ true) ↔ ((to img c ≡ n) × (port img c ≡ p))
   unfolding feeds
-  feeds-ok n p c =
-      let t = eqb (to img c) n in
-      let q = eqb (port img c) p in (
-        λ e. (eqb-true (to img c) n (and-left t q e), eqb-true (port img c) p (and-right t q e)),
-        λ h. rw (eq-eqb (to img c) n (h .0), eq-eqb (port img c) p (h .1)),
-      )
+  feeds-ok n p c = and-iff (eqb (to img c) n) (eqb (port img c) p) (eq-iff (to img c) n) (eq-iff (port img c) p)
 
   -- a channel writes to the place of the port that it feeds, and to no other
   feeds-here : (n p c : ℕ) → feeds img n p c ≡ true → portPlace n p ≡ portPlace (to img c) (port img c)

@@ -1,16 +1,18 @@
 -- Laws of links. Assumes nothing.
 use mathlib.Core.Bool.{Bool, true, false, not, _&&_, false≢true}
 use mathlib.Core.List.{List, [], _∷_, _++_, append-nil}
-use mathlib.Core.Path.{_≡_, refl}
+use mathlib.Core.Path.{_≡_, refl, sym}
 use Prim.Native.Nat.{ℕ, zero, suc, _<_, _≤_}
 use native.Mathlib.Nat.{not-suc-le-zero}
 use native.Mathlib.Omega.{arith}
+use borrow.Author.Tests.{lt-ltb}
+use lib.Dec.{eqb, ltb}
 use lib.IntN.{ℤ, pos}
 use lib.ListN.{length, getD, take}
 use Rattle.laws.specs.Lists.{holds, oneIf}
 use Rattle.laws.specs.ListsLaws.{oneIf-few}
 use Rattle.relay.specs.declared.Link.{Link}
-use Rattle.relay.specs.Link.{token, linkOf, passing, staying}
+use Rattle.relay.specs.Link.{token, linkOf, passing, staying, letter, reading}
 
 -- a link shows one token at most
 pub token-few : (link : Link) → length (token link) ≤ 1
@@ -46,6 +48,11 @@ unfolding linkOf
 valid-holds [] e = e
 valid-holds (x ∷ xs) e = refl
 
+pub valid-count : (xs : List ℤ) → linkOf xs .valid ≡ ltb 0 (length xs)
+unfolding linkOf
+valid-count [] = refl
+valid-count (x ∷ xs) = sym (lt-ltb 0 (suc (length xs)) (omega arith))
+
 pub linkOf-take : (place : List ℤ) → linkOf (take 1 place) ≡ linkOf place
 unfolding linkOf
 linkOf-take [] = refl
@@ -60,6 +67,10 @@ pub passing-staying : (link : List ℤ) (stop : Bool) → passing link stop ++ s
 passing-staying link true = refl
 passing-staying link false = append-nil link
 
+pub passing-few : (link : List ℤ) (stop : Bool) → length link ≤ 1 → length (passing link stop) ≤ 1
+passing-few link true h = omega arith
+passing-few link false h = h
+
 -- a token passes exactly when the link is valid and not stopped
 passing-flag : (valid stop : Bool) (x : ℤ) → holds (passing (oneIf valid x) stop) ≡ valid && not stop
 passing-flag true true x = refl
@@ -70,3 +81,14 @@ passing-flag false false x = refl
 pub passing-holds : (link : Link) (stop : Bool) → holds (passing (token link) stop) ≡ link .valid && not stop
 unfolding token
 passing-holds link stop = passing-flag (link .valid) stop (link .value)
+
+-- the value of a letter T is what passes
+pub letter-passing :
+    (link : List ℤ) (stop : Bool) → length link ≤ 1
+    → let r = reading (linkOf link) stop in oneIf (eqb (r .letter) 84) (r .value) ≡ passing link stop
+unfolding linkOf letter reading
+letter-passing [] true h = refl
+letter-passing [] false h = refl
+letter-passing (x ∷ []) true h = refl
+letter-passing (x ∷ []) false h = refl
+letter-passing (x ∷ y ∷ link) stop h = absurd (not-suc-le-zero {n = 0} (omega arith))

@@ -2,13 +2,15 @@
 use mathlib.Core.Bool.{Bool, true, false, not}
 use mathlib.Core.List.{List, [], _∷_, _++_, append-assoc, append-nil}
 use mathlib.Core.Path.{_≡_, refl, sym, ap, _∙_}
-use Prim.Native.Nat.{ℕ, zero, suc, _<_, _≤_}
+use Prim.Native.Nat.{ℕ, zero, suc, _+_, _<_, _≤_}
 use native.Mathlib.Nat.{not-suc-le-zero, le-of-suc-le-suc}
 use native.Mathlib.Omega.{arith}
 use lib.IntN.{ℤ, pos}
-use lib.ListN.{length, getD, take, drop, take-append-drop, drop-of-length-le}
+use lib.ListN.{length, getD, take, drop, length-append, take-append-drop, drop-of-length-le}
 use lib.Seq.{drop-cons}
+use Rattle.laws.specs.Below.{sumBelow}
 use Rattle.laws.specs.Lists.{holdsTwo, dropIf, Stored}
+use Rattle.laws.specs.Table.{table}
 use Rattle.relay.specs.Link.{passing}
 use Rattle.relay.specs.LinkLaws.{take-few}
 use Rattle.relay.specs.Station.{stationOf, placeAfter}
@@ -37,6 +39,17 @@ row-fifo link (place ∷ row) stop =
     (sym (append-assoc (passing (take 1 place) s) (dropIf (not s) place) enters) ∙ ap (λ (t : List ℤ). t ++ enters) (hand-on place s))
     ∙ sym (append-assoc (contents row) place enters)
 
+-- the same of the row from link j on
+pub part-fifo :
+    (link : List ℤ) (row : List (List ℤ)) (stop : Bool) (j : ℕ) → j ≤ length row
+    → passing (leaving link row) stop ++ contents (drop j (rowAfter link row stop)) ≡
+    contents (drop j row) ++ passing (linkAt link row j) (stopped (drop j row) stop)
+unfolding leaving rowAfter linkAt
+part-fifo link row stop zero h = row-fifo link row stop
+part-fifo link [] stop (suc j) h = absurd (not-suc-le-zero h)
+part-fifo link (place ∷ row) stop (suc zero) h = row-fifo (take 1 place) row stop
+part-fifo link (place ∷ row) stop (suc (suc j)) h = part-fifo (take 1 place) row stop (suc j) (le-of-suc-le-suc h)
+
 -- the tokens behind the one that the leaving link shows
 unfoldable pub behind : List ℤ → List (List ℤ) → List ℤ
 behind link [] = []
@@ -54,6 +67,20 @@ leaving-first link (place ∷ row) =
     ∙ sym (append-assoc (contents row) first (drop 1 place ++ link))
     ∙ ap (λ (t : List ℤ). t ++ (drop 1 place ++ link)) (leaving-first first row)
     ∙ append-assoc (leaving first row) (behind first row) (drop 1 place ++ link)
+
+-- how many tokens a row holds, by its places
+contents-last : (row : List (List ℤ)) (place : List ℤ) → length (contents (row ++ (place ∷ []))) ≡ length (contents row) + length place
+unfolding contents
+contents-last [] place = omega arith
+contents-last (first ∷ row) place =
+    let a = length-append (contents (row ++ (place ∷ []))) first in
+    let b = length-append (contents row) first in
+    omega (arith, a, b, contents-last row place)
+
+pub contents-count : (f : ℕ → List ℤ) (n : ℕ) → length (contents (table f n)) ≡ sumBelow (λ j. length (f j)) n
+unfolding contents table sumBelow
+contents-count f zero = refl
+contents-count f (suc n) = rw (contents-last, contents-count f n)
 
 -- no place holds more than two
 pub row-few :

@@ -3,10 +3,10 @@ use mathlib.Core.Bool.{Bool, true, false, not, _&&_}
 use mathlib.Core.Logic.{⊎-elim}
 use mathlib.Core.List.{List, [], _∷_, _++_}
 use mathlib.Core.Path.{_≡_, refl, sym, ap, ap₂, _∙_}
-use Prim.Native.Nat.{ℕ, _≤_, _<_}
+use Prim.Native.Nat.{ℕ, _≤_, _<_, min}
 use native.Mathlib.Nat.{not-suc-le-zero}
 use native.Mathlib.Omega.{arith}
-use borrow.Author.Tests.{lt-leb, le-leb, eq-eqb}
+use borrow.Author.Tests.{eq-eqb}
 use lib.Dec.{leb, eqb}
 use lib.IntN.{ℤ, pos}
 use lib.ListN.{length, getD, take, length-take}
@@ -15,7 +15,8 @@ use Rattle.laws.specs.Cases.{lt-or-ge}
 use Rattle.laws.specs.Table.{table}
 use Rattle.laws.specs.TableLaws.{table-own}
 use Rattle.laws.specs.Lists.{holdsTwo, dropIf, Stored}
-use Rattle.laws.specs.ListsLaws.{take-padded, stored-padded, stored-own, stored-count}
+use Rattle.laws.specs.ListsLaws.{two-count, take-padded, stored-padded, stored-own, stored-count}
+use Rattle.laws.specs.TestsLaws.{le-iff, test-same}
 use Rattle.relay.specs.declared.Link.{Link}
 use Rattle.relay.specs.declared.Station.{Station}
 use Rattle.relay.specs.Link.{token, linkOf}
@@ -73,19 +74,16 @@ module _ (s : Station) (long : length (s .tokens) ≡ 2) where
   unfolding held
   link-held h = link-take (s .count) (s .tokens) h (omega arith)
 
-  few : s .count < 2 → holdsTwo (held s) ≡ false
-  few l =
-      ⊎-elim
-      (λ (z : s .count < 1). let e : s .count ≡ 0 = omega arith in rw (held-none e))
-      (λ (z : 1 ≤ s .count). let e : s .count ≡ 1 = omega arith in rw (held-one e))
-      (lt-or-ge (s .count) 1)
+  length-held : length (held s) ≡ min (s .count) 2
+  unfolding held
+  length-held = rw (length-take, long)
 
   pub full-held : holdsTwo (held s) ≡ leb 2 (s .count)
   full-held =
-      ⊎-elim
-      (λ (l : s .count < 2). rw (lt-leb 2 (s .count) l) (few l))
-      (λ (l : 2 ≤ s .count). rw (held-two l, le-leb 2 (s .count) l))
-      (lt-or-ge (s .count) 2)
+      let same = le-iff 2 (length (held s)) in
+      two-count (held s)
+      ∙ test-same (leb 2 (length (held s))) (leb 2 (s .count))
+      (λ e. omega (arith, same .0 e, length-held), λ h. same .1 (omega (arith, length-held))) (le-iff 2 (s .count))
 
   -- a station that is not full, and keeps no token, holds what passes
   pub after-clear : (link : List ℤ) (stop : Bool) → s .count < 2 → eqb (s .count) 1 && stop ≡ false → placeAfter link (held s) stop ≡ link
@@ -101,12 +99,8 @@ module _ (s : Station) (long : length (s .tokens) ≡ 2) where
       nothing false = refl
 
   -- whatever stood in it, after a cycle it has two tokens at most, and 0 in every place that holds none
-  held-few : length (held s) ≤ 2
-  unfolding held
-  held-few = rw (length-take, long) (omega arith)
-
   pub after-stored :
       (link : Link) (stop : Bool)
       → let after = stationOf (placeAfter (token link) (held s) stop) in Stored 2 (pos 0) (after .tokens) (after .count)
   after-stored link stop =
-      station-stored (placeAfter (token link) (held s) stop) (place-few (token link) (held s) stop (token-few link) held-few)
+      station-stored (placeAfter (token link) (held s) stop) (place-few (token link) (held s) stop (token-few link) (omega (arith, length-held)))

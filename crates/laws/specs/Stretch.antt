@@ -1,4 +1,3 @@
--- for laws
 -- A stretch of a stream: the list is f a, f (a + 1), f (a + 2) and so on, as long as it is.
 use mathlib.Core.List.{List, [], _∷_}
 use mathlib.Core.Path.{_≡_}

@@ -1,4 +1,3 @@
--- for laws
 -- Laws of stretches: their parts, and that one from the start is a table. Assumes nothing.
 use mathlib.Core.Bool.{Bool, true, false, false≢true}
 use mathlib.Core.List.{List, [], _∷_, _++_}
@@ -8,11 +7,11 @@ use native.Mathlib.Nat.{not-suc-le-zero, le-of-suc-le-suc, add-zero, zero-add, a
 use native.Mathlib.Numerals.{add-one}
 use lib.ListN.{length, getD}
 use lib.Seq.{ext-getD}
 use Rattle.laws.specs.Choice.{_if_else_}
-use Rattle.laws.specs.Lists.{holds, dropIf}
+use Rattle.laws.specs.Lists.{holds, oneIf, dropIf}
 use Rattle.laws.specs.Table.{table}
 use Rattle.laws.specs.TableLaws.{length-table, table-at}
-use Rattle.token_rule.specs.Stretch.{Stretch}
+use Rattle.laws.specs.Stretch.{Stretch}
 
 module _ {A : Type 0} (f : ℕ → A) where
   -- one follows the other, in the list and in the stream
@@ -30,6 +29,12 @@ module _ {A : Type 0} (f : ℕ → A) where
   unfolding Stretch
   stretch-second a [] ys s = rw add-zero s
   stretch-second a (x ∷ xs) ys s = rw (add-suc, ← (suc-add a (length xs))) (stretch-second (suc a) xs ys (s .1))
+
+  -- one element or none
+  pub stretch-one : (a : ℕ) (b : Bool) (x : A) → (b ≡ true → x ≡ f a) → Stretch f a (oneIf b x)
+  unfolding Stretch
+  stretch-one a true x h = (h refl, tt)
+  stretch-one a false x h = tt
 
   -- without its first element it begins one later
   pub stretch-drop : (a : ℕ) (b : Bool) (xs : List A) → (b ≡ true → holds xs ≡ true) → Stretch f a xs → Stretch f (a + (1 if b else 0)) (dropIf b xs)
