@@ -1,59 +1,33 @@
 -- The counter law: what one cycle does to the counts, and when a node fires by them. It holds of every steady state, reached or not. Assumes nothing.
-use mathlib.Core.Bool.{Bool, true, false, not, _&&_}
+use mathlib.Core.Bool.{true, false}
 use mathlib.Core.List.{List, [], _∷_, _++_}
 use mathlib.Core.Logic.{⊎-elim}
 use mathlib.Core.Path.{_≡_, refl, sym, ap, _∙_}
 use Prim.Native.Nat.{ℕ, zero, suc, _+_, _-_, _<_, _≤_, min}
-use native.Mathlib.Nat.{not-suc-le-zero, le-of-suc-le-suc}
 use native.Mathlib.Omega.{arith}
-use borrow.Author.Tests.{eqb-true, le-leb, lt-leb, lt-ltb, le-ltb, ltb-true, ltb-false, not-true}
-use lib.Dec.{eqb, leb, ltb}
+use borrow.Author.Tests.{le-leb, lt-leb, lt-ltb, le-ltb, ltb-true, ltb-false}
+use lib.Dec.{leb, ltb}
 use lib.IntN.{ℤ}
-use lib.ListN.{length, getD, take, drop, length-append, length-take, drop-of-length-le}
+use lib.ListN.{length, getD, drop, length-append, length-take, drop-of-length-le}
 use lib.Seq.{drop-cons}
-use Rattle.laws.specs.Below.{allBelow}
-use Rattle.laws.specs.BelowLaws.{all-any, none-any}
-use Rattle.laws.specs.Cases.{lt-or-ge, and-left}
-use Rattle.laws.specs.Choice.{_if_else_}
-use Rattle.laws.specs.Lists.{holds, holdsTwo}
+use Rattle.laws.specs.Cases.{lt-or-ge}
+use Rattle.laws.specs.Lists.{holds}
+use Rattle.laws.specs.ListsLaws.{two-count}
+use Rattle.laws.specs.TestsLaws.{leb-shift}
 use Rattle.netlist.specs.Image.{channels, from, to, stations, depth}
 use Rattle.netlist.specs.Accepted.{Accepted}
-use Rattle.relay.specs.Link.{linkOf, passing}
+use Rattle.relay.specs.Link.{passing}
+use Rattle.relay.specs.LinkLaws.{valid-count}
 use Rattle.relay.specs.Row.{stopped, leaving, rowAfter, contents, linkAt}
-use Rattle.relay.specs.RowLaws.{row-fifo, stopped-inside, stopped-end, leaving-at}
+use Rattle.relay.specs.RowLaws.{part-fifo, stopped-inside, stopped-end, leaving-at}
 use Rattle.shell.specs.Channel.{Channel, tokens, blocked, arriving, input, stopBelow, stopAbove, channelAfter}
-use Rattle.shell.specs.ChannelLaws.{still-ready}
 use Rattle.shell.specs.Queue.{full}
 use Rattle.engine.specs.declared.State.{State}
 use Rattle.engine.specs.State.{firingsAt, channelIn}
-use Rattle.engine.specs.Cycle.{stalled, inputAt, blockedAt, allReady, anyBlocked, fires, channelNext, stateAfter}
-use Rattle.engine.specs.CycleLaws.{length-row, channel-next, firings-next, fires-ready, fires-clear}
+use Rattle.engine.specs.StateLaws.{length-row, source-few}
+use Rattle.engine.specs.Cycle.{inputAt, blockedAt, fires, channelNext, stateAfter}
+use Rattle.engine.specs.CycleLaws.{channel-next, firings-next, fires-iff, queue-next}
 use Rattle.engine.specs.Counters.{entered, limit, Steady, Enabled}
-use Rattle.engine.specs.FittingLaws.{source-few, length-dropped}
-
--- ---- for laws
-two-count : {A : Type 0} (xs : List A) → holdsTwo xs ≡ leb 2 (length xs)
-two-count [] = refl
-two-count (x ∷ []) = refl
-two-count (x ∷ y ∷ xs) = sym (le-leb 2 (suc (suc (length xs))) (omega arith))
-
-leb-shift : (k a b : ℕ) → leb (k + a) (k + b) ≡ leb a b
-leb-shift k a b =
-    ⊎-elim
-    (λ (l : b < a). rw (lt-leb a b l) (lt-leb (k + a) (k + b) (omega arith)))
-    (λ (l : a ≤ b). rw (le-leb a b l) (le-leb (k + a) (k + b) (omega arith)))
-    (lt-or-ge b a)
-
--- ---- for relay: FIFO law of the row from link j on
-part-fifo :
-    (link : List ℤ) (row : List (List ℤ)) (stop : Bool) (j : ℕ) → j ≤ length row
-    → passing (leaving link row) stop ++ contents (drop j (rowAfter link row stop)) ≡
-    contents (drop j row) ++ passing (linkAt link row j) (stopped (drop j row) stop)
-unfolding leaving rowAfter linkAt
-part-fifo link row stop zero h = row-fifo link row stop
-part-fifo link [] stop (suc j) h = absurd (not-suc-le-zero h)
-part-fifo link (place ∷ row) stop (suc zero) h = row-fifo (take 1 place) row stop
-part-fifo link (place ∷ row) stop (suc (suc j)) h = part-fifo (take 1 place) row stop (suc j) (le-of-suc-le-suc h)
 
 -- ---- the counts of one state
 module _ (img : List ℕ) (s : State) (c : ℕ) where
@@ -69,11 +43,11 @@ module _ (img : List ℕ) (s : State) (c : ℕ) where
   unfolding entered contents
   entered-end j l = rw (drop-of-length-le (channelIn img s c .row) {i = j} (rw (length-row img s c) l)) (omega arith)
 
-  pub limit-inside : (j : ℕ) → j < stations img c → limit img s c j ≡ entered img s c (suc (suc j)) + 2
+  limit-inside : (j : ℕ) → j < stations img c → limit img s c j ≡ entered img s c (suc (suc j)) + 2
   unfolding limit
   limit-inside j l = rw (lt-ltb j (stations img c) l)
 
-  pub limit-end : (j : ℕ) → stations img c ≤ j → limit img s c j ≡ firingsAt s (to img c) + depth img c
+  limit-end : (j : ℕ) → stations img c ≤ j → limit img s c j ≡ firingsAt s (to img c) + depth img c
   unfolding limit
   limit-end j l = rw (le-ltb j (stations img c) l)
 
@@ -156,20 +130,6 @@ least link a b top h e l =
     (lt-or-ge b top)
 
 module _ (img : List ℕ) (a : Accepted img) (w : ℕ) (s : State) (c : ℕ) (h : c < channels img) where
-  -- what passes link r, and what the to node takes
-  queue-count :
-      let ch = channelIn img s c in
-      length (channelIn img (stateAfter img w s) c .queue) + (1 if fires img w s (to img c) else 0) ≡
-      length (ch .queue) + length (passing (arriving ch) (stopBelow (depth img c) ch))
-  unfolding inputAt input channelNext channelAfter stopBelow
-  queue-count =
-      let ch = channelIn img s c in
-      let more = passing (arriving ch) (full (depth img c) (length (ch .queue))) in
-      rw (channel-next img a w s c h)
-      (length-dropped (fires img w s (to img c)) (ch .queue ++ more)
-      (λ f. still-ready (depth img c) (ch .queue) (arriving ch) (a .queues c h .0) (fires-ready img w s c h f))
-      ∙ length-append (ch .queue) more)
-
   -- what passes link j enters the place below it
   entered-pass :
       (j : ℕ) → j ≤ stations img c → let ch = channelIn img s c in
@@ -183,7 +143,7 @@ module _ (img : List ℕ) (a : Accepted img) (w : ℕ) (s : State) (c : ℕ) (h 
       let last = passing (leaving (ch .source) (ch .row)) stop in
       omega (
         arith,
-        queue-count,
+        queue-next img w s c h a,
         firings-next img a w s (to img c) (a .wires c h .1),
         ap (λ (x : Channel). length (contents (drop j (x .row)))) (channel-next img a w s c h),
         ap length (part-fifo (ch .source) (ch .row) stop j (rw (length-row img s c) l)),
@@ -204,11 +164,6 @@ module _ (img : List ℕ) (a : Accepted img) (w : ℕ) (s : State) (c : ℕ) (h 
       (count .0) (count .1) (room img s c ok h j))
 
 -- ---- firing
-valid-count : (xs : List ℤ) → linkOf xs .valid ≡ ltb 0 (length xs)
-unfolding linkOf
-valid-count [] = refl
-valid-count (x ∷ xs) = sym (lt-ltb 0 (suc (length xs)) (omega arith))
-
 blocked-by : (source : List ℤ) (b top : ℕ) → length source ≤ 1 → b ≤ top → blocked (holds source) (leb top b) ≡ ltb top (b + length source)
 unfolding blocked
 blocked-by [] b top o l = sym (le-ltb top (b + 0) (omega arith))
@@ -220,7 +175,7 @@ blocked-by (x ∷ xs) b top o l =
 
 module _ (img : List ℕ) (s : State) (ok : Steady img s) (c : ℕ) (h : c < channels img) where
   -- an input is ready once the to node's next token has come up to its queue
-  pub ready-count : inputAt img s c .valid ≡ ltb (firingsAt s (to img c)) (entered img s c (stations img c))
+  ready-count : inputAt img s c .valid ≡ ltb (firingsAt s (to img c)) (entered img s c (stations img c))
   unfolding inputAt input arriving
   ready-count =
       let ch = channelIn img s c in
@@ -238,60 +193,39 @@ module _ (img : List ℕ) (s : State) (ok : Steady img s) (c : ℕ) (h : c < cha
       (lt-or-ge fired came))
 
   -- a token is blocked while there is no room for it on the channel
-  pub blocked-count : blockedAt img s c ≡ ltb (limit img s c 0) (entered img s c 0)
+  blocked-count : blockedAt img s c ≡ ltb (limit img s c 0) (entered img s c 0)
   unfolding blockedAt stopAbove
   blocked-count =
       let ch = channelIn img s c in
       rw (stop-count img s c 0, entered-first img s c ok h)
       (blocked-by (ch .source) (entered img s c 1) (limit img s c 0) (source-few img s c) (room img s c ok h 0))
 
--- ---- for CycleLaws: what firing asks is all that it asks
-all-from : (f : ℕ → Bool) (n : ℕ) → ((k : ℕ) → k < n → f k ≡ true) → allBelow f n ≡ true
-all-from f n h = all-any f n ∙ ap not (none-any (λ k. not (f k)) n (λ k l. ap not (h k l)))
-
-asked : (b x : Bool) → (b ≡ true → x ≡ true) → (x if b else true) ≡ true
-asked true x h = h refl
-asked false x h = refl
-
-forbidden : (b x : Bool) → (b ≡ true → x ≡ false) → (b && x) ≡ false
-forbidden true x h = h refl
-forbidden false x h = refl
-
-pub ready-fires :
-    (img : List ℕ) (w : ℕ) (s : State) (n : ℕ) → stalled w n ≡ false
-    → ((c : ℕ) → c < channels img → to img c ≡ n → inputAt img s c .valid ≡ true)
-    → ((c : ℕ) → c < channels img → from img c ≡ n → blockedAt img s c ≡ false) → fires img w s n ≡ true
-unfolding fires allReady anyBlocked
-ready-fires img w s n awake ready clear =
-    rw (
-      awake,
-      all-from (λ c. inputAt img s c .valid if eqb (to img c) n else true) (channels img)
-          (λ c h. asked (eqb (to img c) n) (inputAt img s c .valid) (λ e. ready c h (eqb-true (to img c) n e))),
-      none-any (λ c. eqb (from img c) n && blockedAt img s c) (channels img)
-          (λ c h. forbidden (eqb (from img c) n) (blockedAt img s c) (λ e. clear c h (eqb-true (from img c) n e))),
-    )
-
-pub fires-awake : (img : List ℕ) (w : ℕ) (s : State) (n : ℕ) → fires img w s n ≡ true → stalled w n ≡ false
-unfolding fires
-fires-awake img w s n f =
-    let awake = not (stalled w n) in
-    not-true (stalled w n) (and-left awake (allReady img s n) (and-left (awake && allReady img s n) (not (anyBlocked img s n)) f))
-
 -- FIRING, COUNTED: a node fires exactly if it is enabled
 module _ (img : List ℕ) (w : ℕ) (s : State) (ok : Steady img s) (n : ℕ) where
   pub fires-enabled : fires img w s n ≡ true → Enabled img s w n
-  fires-enabled f = record { awake = fires-awake img w s n f; fed = λ c h e. rw e at (fed c h) f; free = λ c h e. rw e at (free c h) f }
+  fires-enabled f =
+      let e = fires-iff img w s n .0 f in
+      record {
+        awake = e .0 .0;
+        fed = λ c h q. rw q at (fed c h (e .0 .1 c h q));
+        free = λ c h q. rw q at (free c h (e .1 c h q));
+      }
     where
-      fed : (c : ℕ) → c < channels img → fires img w s (to img c) ≡ true → firingsAt s (to img c) < entered img s c (stations img c)
-      fed c h f = ltb-true (firingsAt s (to img c)) (entered img s c (stations img c)) (sym (ready-count img s ok c h) ∙ fires-ready img w s c h f)
+      fed : (c : ℕ) → c < channels img → inputAt img s c .valid ≡ true → firingsAt s (to img c) < entered img s c (stations img c)
+      fed c h e = ltb-true (firingsAt s (to img c)) (entered img s c (stations img c)) (sym (ready-count img s ok c h) ∙ e)
 
-      free : (c : ℕ) → c < channels img → fires img w s (from img c) ≡ true → firingsAt s (from img c) < limit img s c 0
-      free c h f =
-          let l = ltb-false (limit img s c 0) (entered img s c 0) (sym (blocked-count img s ok c h) ∙ fires-clear img w s c h f) in
+      free : (c : ℕ) → c < channels img → blockedAt img s c ≡ false → firingsAt s (from img c) < limit img s c 0
+      free c h e =
+          let l = ltb-false (limit img s c 0) (entered img s c 0) (sym (blocked-count img s ok c h) ∙ e) in
           omega (arith, l, entered-source img s c)
 
   pub enabled-fires : Enabled img s w n → fires img w s n ≡ true
   enabled-fires e =
-      ready-fires img w s n (e .awake)
-      (λ c h q. ready-count img s ok c h ∙ lt-ltb (firingsAt s (to img c)) (entered img s c (stations img c)) (rw q (e .fed c h q)))
-      (λ c h q. blocked-count img s ok c h ∙ le-ltb (limit img s c 0) (entered img s c 0) (rw (entered-source img s c, q) (e .free c h q)))
+      fires-iff img w s n .1
+      (
+        (
+          e .awake,
+          λ c h q. ready-count img s ok c h ∙ lt-ltb (firingsAt s (to img c)) (entered img s c (stations img c)) (rw q (e .fed c h q)),
+        ),
+        λ c h q. blocked-count img s ok c h ∙ le-ltb (limit img s c 0) (entered img s c 0) (rw (entered-source img s c, q) (e .free c h q)),
+      )

@@ -1,15 +1,15 @@
 -- The definitions, computed: figure 4 of source document 000, whole; a ring with stations through twenty cycles with stalls; states that fit and
 -- states that do not.
-use mathlib.Core.List.{List, [], _∷_, map}
+use mathlib.Core.List.{List, [], _∷_}
 use mathlib.Core.Path.{_≡_, refl}
-use Prim.Native.Nat.{ℕ, _/_, _%_}
-use lib.IntN.{ℤ, pos}
+use Prim.Native.Nat.{ℕ}
+use lib.IntN.{pos}
 use Rattle.laws.specs.Below.{allBelow, anyBelow, pickBelow}
 use Rattle.laws.specs.Signed.{signed}
 use Rattle.laws.specs.Lists.{padded}
 use Rattle.laws.specs.Table.{table}
 use Rattle.netlist.specs.Image.{nodes, channels, kind, parameter, wire, from, to, port, feeds, depths, stations, depth}
-use Rattle.netlist.specs.Examples.{figure4, ring}
+use Rattle.netlist.specs.Examples.{figure4}
 use Rattle.pearl.specs.Wrap.{wrap}
 use Rattle.pearl.specs.Next.{exact, nextValue}
 use Rattle.node.specs.Node.{portValue, nextOf}

@@ -9,7 +9,7 @@ use Rattle.laws.specs.Below.{allBelow, sumBelow}
 use Rattle.laws.specs.Signed.{isZero}
 use Rattle.netlist.specs.Image.{nodes, channels, from, to, stations, depth}
 use Rattle.engine.specs.declared.State.{State}
-use Rattle.engine.specs.State.{nodeAt, valueAt, firingsAt, markAt, stationAt, queueAt}
+use Rattle.engine.specs.State.{valueAt, firingsAt, markAt, stationAt, queueAt}
 
 -- of an array of n places, those from `count` on are 0
 unfoldable pub zeroFrom : ℕ → ℕ → List ℤ → Bool

@@ -1,5 +1,5 @@
 -- Number 21 is the record `Fitting`, both ways. Assumes nothing.
-use mathlib.Core.Bool.{Bool, true, false}
+use mathlib.Core.Bool.{true}
 use mathlib.Core.List.{List, [], _++_}
 use mathlib.Core.Logic.{⊎-elim}
 use mathlib.Core.Path.{_≡_, refl, sym, ap, ap₂, _∙_}
@@ -9,12 +9,14 @@ use lib.Dec.{eqb}
 use lib.IntN.{ℤ, pos}
 use lib.ListN.{length, getD, length-append, List·getD-eq-default}
 use Rattle.laws.specs.Below.{sumBelow}
+use Rattle.laws.specs.BelowLaws.{sum-same}
 use Rattle.laws.specs.Cases.{lt-or-ge}
 use Rattle.laws.specs.Choice.{_if_else_}
+use Rattle.laws.specs.ChoiceLaws.{one-few}
 use Rattle.laws.specs.Lists.{holds, oneIf, padded, Stored}
 use Rattle.laws.specs.ListsLaws.{stored-count}
 use Rattle.laws.specs.Table.{table}
-use Rattle.laws.specs.TableLaws.{table-at}
+use Rattle.laws.specs.TableLaws.{padded-past, padded-own}
 use Rattle.netlist.specs.Image.{nodes, channels, from, to, stations, depth}
 use Rattle.netlist.specs.Accepted.{Accepted}
 use Rattle.relay.specs.declared.Station.{Station}
@@ -22,6 +24,7 @@ use Rattle.relay.specs.Station.{held, stationOf}
 use Rattle.relay.specs.StationLaws.{station-own, station-stored}
 use Rattle.relay.specs.RowCycle.{noStation}
 use Rattle.relay.specs.Row.{contents}
+use Rattle.relay.specs.RowLaws.{contents-count}
 use Rattle.shell.specs.declared.Queue.{Queue}
 use Rattle.shell.specs.Queue.{waiting, queueOf}
 use Rattle.shell.specs.QueueLaws.{queue-own, queue-stored}
@@ -29,11 +32,10 @@ use Rattle.shell.specs.Channel.{tokens}
 use Rattle.engine.specs.declared.Node.{Node}
 use Rattle.engine.specs.declared.State.{State}
 use Rattle.engine.specs.State.{noNode, noQueue, nodeAt, valueAt, firingsAt, markAt, stationAt, queueAt, channelIn, stateOf}
-use Rattle.engine.specs.StateLaws.{mark-of, queue-of, station-of}
-use Rattle.engine.specs.CycleLaws.{length-row}
+use Rattle.engine.specs.StateLaws.{row-at, row-past}
 use Rattle.engine.specs.Fits.{fits}
 use Rattle.engine.specs.Fitting.{Shaped, Fitting}
-use Rattle.engine.specs.MoreLaws.{sum-same, padded-past, padded-own, contents-count}
+use Rattle.engine.specs.FittingLaws.{mark-written, station-written, queue-written, queue-count}
 use Rattle.engine.specs.Places.{Cleared, StationClear, QueueClear, Places, fits-iff}
 
 -- ---- arrays whose unused places are 0
@@ -66,15 +68,7 @@ mark-count zero v h = (refl, refl)
 mark-count (suc zero) v h = (refl, refl)
 mark-count (suc (suc m)) v h = absurd (omega arith)
 
-mark-few : (b : Bool) → (1 if b else 0) ≤ 1
-mark-few true = omega arith
-mark-few false = omega arith
-
 module _ (img : List ℕ) (s : State) (c : ℕ) where
-  -- past a channel's stations there are no tokens
-  row-past : (j : ℕ) → stations img c ≤ j → getD (channelIn img s c .row) j [] ≡ []
-  row-past j h = List·getD-eq-default (channelIn img s c .row) [] (rw (length-row img s c) h)
-
   -- the tokens of a channel are those of its mark, its stations and its queue
   tokens-count :
       markAt s c ≤ 1 → ((j : ℕ) → j < stations img c → StationStored (stationAt s c j)) → QueueStored (queueAt s c)
@@ -94,70 +88,65 @@ module _ (img : List ℕ) (s : State) (c : ℕ) where
 -- ---- from the facts to the test: what stands at a place is what was written there
 module _ (img : List ℕ) (a : Accepted img) (s : State) (f : Fitting img s) where
   mark-within : (c : ℕ) → c < channels img → markAt s c ≤ 1
-  mark-within c h =
-      rw (ap (λ t. markAt t c) (f .written) ∙ mark-of img (s .cycles) (nodeAt s) (channelIn img s) c h) (mark-few (holds (channelIn img s c .source)))
+  mark-within c h = rw (mark-written img s f c h) (one-few (holds (channelIn img s c .source)))
 
   mark-none : (c : ℕ) → c < 96 → channels img ≤ c → markAt s c ≡ 0
   unfolding markAt stateOf
   mark-none c l h =
       ap (λ t. markAt t c) (f .written)
-      ∙ padded-past (λ k. 1 if holds (channelIn img s k .source) else 0) (channels img) 96 0 0 (a .few-channels) c h l
+      ∙ padded-past (λ k. 1 if holds (channelIn img s k .source) else 0) (channels img) 96 c 0 0 h l
 
   node-none : (n : ℕ) → n < 64 → nodes img ≤ n → nodeAt s n ≡ noNode
   unfolding nodeAt stateOf
-  node-none n l h = ap (λ t. nodeAt t n) (f .written) ∙ padded-past (nodeAt s) (nodes img) 64 noNode noNode (a .few-nodes) n h l
-
-  station-is : (c : ℕ) → c < channels img → (j : ℕ) → j < 8 → stationAt s c j ≡ stationOf (getD (channelIn img s c .row) j [])
-  station-is c h j l = ap (λ t. stationAt t c j) (f .written) ∙ station-of img (s .cycles) (nodeAt s) (channelIn img s) c h j l
+  node-none n l h = ap (λ t. nodeAt t n) (f .written) ∙ padded-past (nodeAt s) (nodes img) 64 n noNode noNode h l
 
   station-past : (c : ℕ) → c < 96 → channels img ≤ c → (j : ℕ) → j < 8 → stationAt s c j ≡ stationOf []
   unfolding stationAt stateOf
   station-past c b h j l =
       ap (λ t. stationAt t c j) (f .written)
-      ∙ padded-past (λ i. stationOf (getD (channelIn img s (i / 8) .row) (i % 8) [])) (8 * channels img) 768 (stationOf []) noStation
-      (omega (arith, a .few-channels)) (8 * c + j) (omega arith) (omega arith)
+      ∙ padded-past (λ i. stationOf (getD (channelIn img s (i / 8) .row) (i % 8) [])) (8 * channels img) 768 (8 * c + j) (stationOf []) noStation
+      (omega arith) (omega arith)
 
   station-none : (c : ℕ) → c < 96 → (j : ℕ) → j < 8 → (c < channels img → stations img c ≤ j) → stationAt s c j ≡ stationOf []
   station-none c b j l none =
       ⊎-elim
-      (λ (h : c < channels img). station-is c h j l ∙ ap stationOf (row-past img s c j (none h)))
+      (λ (h : c < channels img). station-written img s f c h j l ∙ ap stationOf (row-past img s c j (none h)))
       (λ (h : channels img ≤ c). station-past c b h j l)
       (lt-or-ge c (channels img))
 
   station-fits : (c : ℕ) → c < 96 → (j : ℕ) → j < 8 → StationStored (stationAt s c j)
   station-fits c b j l =
       ⊎-elim
-      (λ (h : c < channels img). rw (station-is c h j l) (station-stored (getD (channelIn img s c .row) j []) (f .few c h j)))
+      (λ (h : c < channels img). rw (station-written img s f c h j l) (station-stored (getD (channelIn img s c .row) j []) (f .few c h j)))
       (λ (h : channels img ≤ c). rw (station-past c b h j l) (station-stored [] (omega arith)))
       (lt-or-ge c (channels img))
 
-  station-says : (c : ℕ) → c < 96 → (j : ℕ) → j < 8 → StationClear img s c j
+  station-clear : (c : ℕ) → c < 96 → (j : ℕ) → j < 8 → StationClear img s c j
   unfolding stationOf
-  station-says c b j l =
+  station-clear c b j l =
       (λ i h. station-fits c b j l .rest i, λ none. ap (λ (st : Station). st .count) (station-none c b j l none))
 
   queue-none : (c : ℕ) → c < 96 → channels img ≤ c → queueAt s c ≡ queueOf []
   unfolding queueAt stateOf
   queue-none c b h =
       ap (λ t. queueAt t c) (f .written)
-      ∙ padded-past (λ k. queueOf (channelIn img s k .queue)) (channels img) 96 (queueOf []) noQueue (a .few-channels) c h b
+      ∙ padded-past (λ k. queueOf (channelIn img s k .queue)) (channels img) 96 c (queueOf []) noQueue h b
 
   queue-fits : (c : ℕ) → c < 96 → QueueStored (queueAt s c)
   queue-fits c b =
       ⊎-elim
       (λ (h : c < channels img).
-      rw (ap (λ t. queueAt t c) (f .written) ∙ queue-of img (s .cycles) (nodeAt s) (channelIn img s) c h)
+      rw (queue-written img s f c h)
       (queue-stored (channelIn img s c .queue) (omega (arith, f .within c h, a .queues c h))))
       (λ (h : channels img ≤ c). rw (queue-none c b h) (queue-stored [] (omega arith)))
       (lt-or-ge c (channels img))
 
-  queue-says : (c : ℕ) → c < 96 → QueueClear img s c
+  queue-clear : (c : ℕ) → c < 96 → QueueClear img s c
   unfolding queueOf
-  queue-says c b = (λ i h. queue-fits c b .rest i, λ h. ap (λ (q : Queue). q .count) (queue-none c b h))
+  queue-clear c b = (λ i h. queue-fits c b .rest i, λ h. ap (λ (q : Queue). q .count) (queue-none c b h))
 
   queue-within : (c : ℕ) → c < channels img → queueAt s c .count ≤ depth img c
-  unfolding channelIn
-  queue-within c h = omega (arith, waiting-count (queueAt s c) (queue-fits c (omega (arith, a .few-channels))), f .within c h)
+  queue-within c h = omega (arith, queue-count img s f c h, f .within c h)
 
   -- a state that fits passes the test,
   pub fits-fitting : fits img s ≡ true
@@ -173,8 +162,8 @@ module _ (img : List ℕ) (a : Accepted img) (s : State) (f : Fitting img s) whe
         counts = λ c h. (λ j l. row c h j l .few, queue-within c h);
         node = λ n l h. (ap (λ (x : Node). x .value) (node-none n l h), ap (λ (x : Node). x .firings) (node-none n l h));
         mark = mark-none;
-        station = station-says;
-        queue = queue-says;
+        station = station-clear;
+        queue = queue-clear;
         balance = λ c h. omega (arith, tokens-count img s c (mark-within c h) (row c h) (queue-fits c (below c h)), f .balance c h);
       }
 
@@ -205,10 +194,9 @@ module _ (img : List ℕ) (a : Accepted img) (s : State) (shape : Shaped s) (p :
   none-held c b j l none = let e = p .station c b j l .1 none in rw e
 
   row-is : (c : ℕ) → c < channels img → (j : ℕ) → j < 8 → getD (channelIn img s c .row) j [] ≡ held (stationAt s c j)
-  unfolding channelIn
   row-is c h j l =
       ⊎-elim
-      (λ (b : j < stations img c). table-at (λ k. held (stationAt s c k)) (stations img c) j [] b)
+      (λ (b : j < stations img c). row-at img s c j b)
       (λ (b : stations img c ≤ j). row-past img s c j b ∙ sym (none-held c (below c h) j l (λ k. b)))
       (lt-or-ge j (stations img c))
 
@@ -230,13 +218,13 @@ module _ (img : List ℕ) (a : Accepted img) (s : State) (shape : Shaped s) (p :
   nodes-written : s .nodes ≡ padded 64 noNode (table (nodeAt s) (nodes img))
   unfolding nodeAt
   nodes-written =
-      padded-own (nodeAt s) (nodes img) 64 noNode noNode (a .few-nodes) (s .nodes) (shape .nodes) (λ n h. refl)
+      padded-own (nodeAt s) (nodes img) 64 noNode noNode (s .nodes) (a .few-nodes) (shape .nodes) (λ n h. refl)
       (λ n h l. let e = p .node n l h in ap₂ {C = Node} (λ (v : ℤ) (k : ℕ). record { value = v; firings = k }) (e .0) (e .1))
 
   pending-written : s .pending ≡ padded 96 0 (table (λ c. 1 if holds (channelIn img s c .source) else 0) (channels img))
   unfolding markAt channelIn
   pending-written =
-      padded-own (λ c. 1 if holds (channelIn img s c .source) else 0) (channels img) 96 0 0 (a .few-channels) (s .pending) (shape .pending)
+      padded-own (λ c. 1 if holds (channelIn img s c .source) else 0) (channels img) 96 0 0 (s .pending) (a .few-channels) (shape .pending)
       (λ c h. mark-count (markAt s c) (valueAt s (from img c)) (p .marks c h) .1) (λ c h l. p .mark c l h)
 
   stations-written :
@@ -244,7 +232,7 @@ module _ (img : List ℕ) (a : Accepted img) (s : State) (shape : Shaped s) (p :
   unfolding stationAt
   stations-written =
       padded-own (λ i. stationOf (getD (channelIn img s (i / 8) .row) (i % 8) [])) (8 * channels img) 768 (stationOf []) noStation
-      (omega (arith, a .few-channels)) (s .stations) (shape .stations)
+      (s .stations) (omega (arith, a .few-channels)) (shape .stations)
       (λ i h.
       let b : i / 8 < channels img = omega arith in
       let l : i % 8 < 8 = omega arith in
@@ -262,7 +250,7 @@ module _ (img : List ℕ) (a : Accepted img) (s : State) (shape : Shaped s) (p :
   queues-written : s .queues ≡ padded 96 (queueOf []) (table (λ c. queueOf (channelIn img s c .queue)) (channels img))
   unfolding queueAt channelIn
   queues-written =
-      padded-own (λ c. queueOf (channelIn img s c .queue)) (channels img) 96 (queueOf []) noQueue (a .few-channels) (s .queues) (shape .queues)
+      padded-own (λ c. queueOf (channelIn img s c .queue)) (channels img) 96 (queueOf []) noQueue (s .queues) (a .few-channels) (shape .queues)
       (λ c h. queue-own (queueAt s c) (queue-holds c (below c h)))
       (λ c h l. queue-own (queueAt s c) (queue-holds c l) ∙ ap queueOf (none-waiting c l h))
 

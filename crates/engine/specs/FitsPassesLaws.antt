@@ -6,14 +6,15 @@ use mathlib.Core.Path.{_≡_}
 use Prim.Native.Nat.{ℕ, _<_, _≤_}
 use native.Mathlib.Omega.{arith}
 use lib.Dec.{leb}
+use Rattle.laws.specs.BelowLaws.{all-iff}
 use Rattle.laws.specs.Cases.{lt-or-ge}
+use Rattle.laws.specs.TestsLaws.{le-iff, and-iff, test-same}
 use Rattle.netlist.specs.Image.{nodes, channels, depth}
 use Rattle.netlist.specs.Accepted.{Accepted}
 use Rattle.engine.specs.declared.State.{State}
 use Rattle.engine.specs.State.{firingsAt, markAt, queueAt}
 use Rattle.engine.specs.Fits.{cyclesFit, stationsFit, nodeClear, balanced, fits}
 use Rattle.engine.specs.FitsPasses.{nodeFits, nodesFit, channelFits, channelsFit, channelClear, channelsClear}
-use Rattle.engine.specs.MoreLaws.{le-iff, and-iff, all-iff, test-same}
 use Rattle.engine.specs.Places.{Places, cycles-say, counts-say, node-says, channel-says, balance-says, fits-iff}
 
 module _ (img : List ℕ) (a : Accepted img) (s : State) where

@@ -1,27 +1,60 @@
--- The fresh state, filled node by node and channel by channel. Assumes nothing.
-use mathlib.Core.List.{List, []}
+-- The fresh state: what its nodes and channels are; and how it is filled, node by node and channel by channel. Assumes nothing.
+use mathlib.Core.List.{List, [], _∷_}
 use mathlib.Core.Path.{_≡_, refl, ap}
-use Prim.Native.Nat.{ℕ, suc, _*_, _/_, _%_, _<_}
+use Prim.Native.Nat.{ℕ, zero, suc, _*_, _/_, _%_, _<_}
 use native.Mathlib.Omega.{arith}
 use borrow.Author.Tests.{ne-eqb}
 use lib.IntN.{ℤ}
-use lib.ListN.{getD, set, replicate}
+use lib.ListN.{getD, set, replicate, length-replicate}
 use Rattle.laws.specs.Lists.{padded}
+use Rattle.laws.specs.ListsLaws.{replicate-rest}
 use Rattle.laws.specs.Table.{table}
-use Rattle.laws.specs.TableLaws.{padded-table}
-use Rattle.netlist.specs.Image.{nodes, channels, parameter, stations}
+use Rattle.laws.specs.TableLaws.{padded-table, padded-same}
+use Rattle.netlist.specs.Image.{nodes, channels, parameter, from, stations}
 use Rattle.netlist.specs.Accepted.{Accepted}
 use Rattle.netlist.specs.Judge.{judge}
 use Rattle.relay.specs.declared.Station.{Station}
 use Rattle.relay.specs.Station.{stationOf}
+use Rattle.relay.specs.Row.{contents}
 use Rattle.shell.specs.declared.Queue.{Queue}
 use Rattle.shell.specs.Queue.{queueOf}
+use Rattle.shell.specs.Channel.{tokens}
 use Rattle.engine.specs.declared.Node.{Node}
 use Rattle.engine.specs.declared.State.{State}
-use Rattle.engine.specs.State.{noNode, stateOf}
+use Rattle.engine.specs.State.{noNode, nodeAt, firingsAt, channelIn, stateOf}
+use Rattle.engine.specs.StateLaws.{node-of, channel-of}
 use Rattle.engine.specs.Fresh.{freshState, zeros, freshAnswer}
-use Rattle.engine.specs.MoreLaws.{padded-same, replicate-all}
 
+-- ---- what it is written from
+pub fresh-cycles : (img : List ℕ) → freshState img .cycles ≡ 0
+unfolding freshState stateOf
+fresh-cycles img = refl
+
+pub fresh-node : (img : List ℕ) (n : ℕ) → n < nodes img → nodeAt (freshState img) n ≡ record { value = parameter img n; firings = 0 }
+unfolding freshState
+fresh-node img n h = node-of img 0 _ _ n h
+
+pub fresh-firings : (img : List ℕ) (n : ℕ) → n < nodes img → firingsAt (freshState img) n ≡ 0
+fresh-firings img n h = ap (λ (x : Node). x .firings) (fresh-node img n h)
+
+-- stations that hold nothing
+nothing-there : (r : ℕ) → contents (replicate r []) ≡ []
+unfolding contents
+nothing-there zero = refl
+nothing-there (suc r) = rw (nothing-there r)
+
+module _ (img : List ℕ) (a : Accepted img) (c : ℕ) (h : c < channels img) where
+  pub fresh-channel :
+      channelIn img (freshState img) c ≡ record { source = parameter img (from img c) ∷ []; row = replicate (stations img c) []; queue = [] }
+  unfolding freshState
+  fresh-channel = channel-of img 0 _ _ c h (a .wires c h .0) (a .rows c h) (length-replicate (stations img c) []) refl
+
+  -- each channel holds one token, its from node's parameter
+  pub fresh-tokens : tokens (channelIn img (freshState img) c) ≡ parameter img (from img c) ∷ []
+  unfolding tokens
+  fresh-tokens = rw (fresh-channel, nothing-there (stations img c))
+
+-- ---- how it is filled
 -- a fresh node
 unfoldable pub freshNode : List ℕ → ℕ → Node
 freshNode img n = record { value = parameter img n; firings = 0 }
@@ -69,7 +102,7 @@ module _ (img : List ℕ) where
   filled-all a =
       rw (
         padded-same (λ i. stationOf (getD (replicate (stations img (i / 8)) []) (i % 8) [])) (8 * channels img) 768 (stationOf [])
-            (omega (arith, a .few-channels)) (λ i h. ap stationOf (replicate-all (stations img (i / 8)) (i % 8) [])),
+            (omega (arith, a .few-channels)) (λ i h. ap stationOf (replicate-rest (stations img (i / 8)) (i % 8) [])),
         padded-same (λ c. queueOf []) (channels img) 96 (queueOf []) (a .few-channels) (λ c h. refl),
       )
 

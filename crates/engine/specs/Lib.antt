@@ -25,4 +25,3 @@ pub mod FitsPassesLaws
 pub mod Taken
 pub mod AnswerLaws
 pub mod Examples
-pub mod MoreLaws

@@ -2,7 +2,7 @@
 -- state whose channels below c have moved.
 use mathlib.Core.Bool.{Bool, false, not, _&&_}
 use mathlib.Core.List.{List, []}
-use Prim.Native.Nat.{ℕ, suc, _+_, _*_, _/_, _%_}
+use Prim.Native.Nat.{ℕ, _/_, _%_}
 use lib.Dec.{eqb}
 use lib.IntN.{ℤ, pos}
 use lib.ListN.{getD, replicate}
@@ -10,7 +10,6 @@ use Rattle.laws.specs.Below.{anyBelow}
 use Rattle.laws.specs.Choice.{_if_else_}
 use Rattle.laws.specs.Lists.{holds, padded}
 use Rattle.laws.specs.Table.{table, tableOver}
-use Rattle.netlist.specs.declared.Channel.{Channel}
 use Rattle.netlist.specs.Image.{kind, from, to}
 use Rattle.netlist.specs.Readers.{channelAt}
 use Rattle.netlist.specs.Ports.{portsBelow}

@@ -8,14 +8,16 @@ use lib.Dec.{eqb, leb, ltb}
 use lib.IntN.{ℤ, pos}
 use lib.ListN.{getD}
 use Rattle.laws.specs.Below.{allBelow, sumBelow}
+use Rattle.laws.specs.BelowLaws.{all-iff}
 use Rattle.laws.specs.Signed.{isZero}
+use Rattle.laws.specs.SignedLaws.{zero-iff}
+use Rattle.laws.specs.TestsLaws.{lt-iff, ge-iff, le-iff, eq-iff, and-iff, or-iff, nand-iff}
 use Rattle.netlist.specs.Image.{nodes, channels, from, to, stations, depth}
 use Rattle.engine.specs.declared.State.{State}
 use Rattle.engine.specs.State.{valueAt, firingsAt, markAt, stationAt, queueAt}
 use Rattle.engine.specs.Fits.{zeroFrom, cyclesFit, firingsFit, marksFit, stationsFit, countsFit, unusedClear, balanced, fits}
 use Rattle.engine.specs.Fits.{nodeClear, markClear, stationClear, queueClear}
 use Rattle.engine.specs.FitsPasses.{channelClear}
-use Rattle.engine.specs.MoreLaws.{lt-iff, ge-iff, le-iff, eq-iff, zero-iff, and-iff, or-iff, nand-iff, all-iff}
 
 -- an array of n places is 0 from `count` on
 abbrev pub Cleared : ℕ → ℕ → List ℤ → Type 0

@@ -1,5 +1,4 @@
 -- The state of a netlist: what its nodes show and its channels hold, and how a state is written.
-use mathlib.Core.Bool.{Bool}
 use mathlib.Core.List.{List, []}
 use Prim.Native.Nat.{ℕ, _+_, _*_, _/_, _%_}
 use lib.Dec.{eqb}

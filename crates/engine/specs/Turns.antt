@@ -9,12 +9,12 @@ use native.Mathlib.Numerals.{add-one}
 use native.Mathlib.Omega.{arith}
 use lib.Dec.{eqb}
 use lib.IntN.{ℤ, pos}
-use lib.ListN.{length, getD, set, take, replicate, length-replicate, getD-replicate, List·getD-append}
+use lib.ListN.{length, getD, set, take, replicate, length-replicate, getD-replicate}
 use Rattle.laws.specs.Cases.{or-left, or-right}
 use Rattle.laws.specs.Choice.{_if_else_}
 use Rattle.laws.specs.Lists.{holdsTwo}
-use Rattle.laws.specs.Table.{table, tableOver}
-use Rattle.laws.specs.TableLaws.{length-table, table-at, over-set}
+use Rattle.laws.specs.Table.{tableOver}
+use Rattle.laws.specs.TableLaws.{over-set, over-at, over-same-at}
 use Rattle.netlist.specs.declared.Channel.{Channel as Wire}
 use Rattle.netlist.specs.Image.{nodes, channels, from, to, stations, depth}
 use Rattle.netlist.specs.Accepted.{Accepted}
@@ -35,8 +35,9 @@ use Rattle.engine.specs.declared.State.{State}
 use Rattle.engine.specs.State.{noNode, noQueue, nodeAt, markAt, stationAt, queueAt, channelIn}
 use Rattle.engine.specs.Cycle.{stalled, inputAt, blockedAt, fires, nodeAfter, stateAfter, after}
 use Rattle.engine.specs.Fitting.{Fitting}
+use Rattle.engine.specs.FittingLaws.{nodes-long, pending-long, stations-long, queues-long, queue-count}
 use Rattle.engine.specs.Parts.{kindsBelow, starvedBelow, broughtBelow, blockedBelow, firesBelow, nodesBelow, stationNext, queueNext, markNext, movedBelow}
-use Rattle.engine.specs.PartsLaws.{linkIn, stopIn, link-source, link-above, link-last, stop-inside, stop-last, queue-count, starved-turn, blocked-turn, brought-turn, input-at, blocked-at, station-turn, mark-turn, queue-turn, row-skip, stations-long, pending-long, queues-long, nodes-long, over-same-at, gate-turn, taken-turn, kind-read, cycle-done}
+use Rattle.engine.specs.PartsLaws.{linkIn, stopIn, link-source, link-above, link-last, stop-inside, stop-last, starved-turn, blocked-turn, brought-turn, input-at, blocked-at, station-turn, mark-turn, queue-turn, row-skip, gate-turn, taken-turn, kind-read, cycle-done}
 
 -- a state with another node n; with another queue c
 abbrev pub withNode : State → ℕ → Node → State
@@ -165,11 +166,12 @@ module _ (img : List ℕ) (a : Accepted img) (s : State) (fit : Fitting img s) (
     pub ends-read :
         (now : List Bool) → now ≡ firesBelow img w s (nodes img)
         → (getD now (wire .to) false ≡ fires img w s (to img c)) × (getD now (wire .from) false ≡ fires img w s (from img c))
-    unfolding channelAt firesBelow tableOver
-    ends-read now q = rw (e, q) (
-        List·getD-append (table (fires img w s) (nodes img)) _ false (to img c) (rw length-table (a .wires c h .1)) ∙ table-at (fires img w s) (nodes img) (to img c) false (a .wires c h .1),
-        List·getD-append (table (fires img w s) (nodes img)) _ false (from img c) (rw length-table (a .wires c h .0)) ∙ table-at (fires img w s) (nodes img) (from img c) false (a .wires c h .0),
-      )
+    unfolding channelAt firesBelow
+    ends-read now q =
+        rw (e, q) (
+          over-at (fires img w s) (nodes img) (replicate 64 false) (to img c) false (a .wires c h .1),
+          over-at (fires img w s) (nodes img) (replicate 64 false) (from img c) false (a .wires c h .0),
+        )
 
     pub mark-read :
         (stop fired : Bool) → stop ≡ stopIn img s c 0 → fired ≡ fires img w s (from img c)

@@ -1,12 +1,12 @@
 -- What a test says, both ways: `ltb a b` is a < b, an `&&` is both of its parts. Assumes nothing.
 use mathlib.Core.Bool.{Bool, true, false, not, _&&_, _||_, true≢false, false≢true}
-use mathlib.Core.Logic.{_↔_, ⊎-elim}
+use mathlib.Core.Logic.{_↔_}
 use mathlib.Core.Path.{_≡_, refl, sym, ap}
 use Prim.Native.Nat.{ℕ, _+_, _<_, _≤_}
 use native.Mathlib.Omega.{arith}
 use borrow.Author.Tests.{ltb-true, ltb-false, leb-true, leb-false, eqb-true, not-true, lt-ltb, le-ltb, le-leb, lt-leb, eq-eqb}
 use lib.Dec.{eqb, leb, ltb}
-use Rattle.laws.specs.Cases.{lt-or-ge, and-left, and-right, or-left, or-right}
+use Rattle.laws.specs.Cases.{and-left, and-right, or-left, or-right}
 use Rattle.laws.specs.Choice.{_if_else_}
 
 -- ---- numbers

@@ -17,7 +17,7 @@ use Rattle.relay.specs.declared.RowCycle.{RowCycle}
 use Rattle.relay.specs.Link.{token, linkOf}
 use Rattle.relay.specs.LinkLaws.{linkOf-take, token-of, token-few, passing-holds}
 use Rattle.relay.specs.Station.{held, stationOf, placeAfter}
-use Rattle.relay.specs.Row.{stopped, leaving, rowAfter, linkAt}
+use Rattle.relay.specs.Row.{stopped, rowAfter, linkAt}
 use Rattle.relay.specs.RowLaws.{link-few, after-at, leaving-at, length-after}
 use Rattle.relay.specs.RowCycle.{places, rowCycle, stationAfter, noStation}
 

@@ -6,11 +6,12 @@ use mathlib.Core.Path.{_≡_, refl, ap, _∙_}
 use Prim.Native.Nat.{ℕ, suc, _+_, _<_, _≤_}
 use native.Mathlib.Nat.{add-zero, add-suc, suc-add}
 use native.Mathlib.Omega.{arith}
-use borrow.Author.Tests.{ltb-true, lt-ltb, le-ltb, le-leb, lt-leb, eq-eqb, ne-eqb}
+use borrow.Author.Tests.{ltb-true, lt-ltb, le-ltb, eq-eqb, ne-eqb}
 use lib.Dec.{eqb, leb, ltb, eqb·zero-suc, eqb·suc-suc}
 use lib.ListN.{length, drop}
 use Rattle.laws.specs.Cases.{lt-or-ge}
 use Rattle.laws.specs.Choice.{_if_else_}
+use Rattle.laws.specs.TestsLaws.{ltb-leb}
 use Rattle.netlist.specs.Image.{nodes, channels}
 use Rattle.netlist.specs.Accepted.{Accepted}
 use Rattle.netlist.specs.AcceptedLaws.{accepts}
@@ -18,13 +19,12 @@ use Rattle.engine.specs.declared.Ran.{Ran}
 use Rattle.engine.specs.declared.State.{State}
 use Rattle.engine.specs.declared.Stepped.{Stepped}
 use Rattle.engine.specs.Cycle.{stateAfter, lettersOf, valuesOf, after}
+use Rattle.engine.specs.CycleLaws.{cycles-next}
 use Rattle.engine.specs.Fitting.{Fitting}
 use Rattle.engine.specs.FitsLaws.{fits-fitting}
 use Rattle.engine.specs.Answer.{setsAbove, stepNumber, stepOf, stepAnswer, lettersWritten, valuesWritten, stepMore, ranFrom, runAnswer}
-use Rattle.token_rule.specs.CyclesLaws.{cycles-next}
 use Rattle.token_rule.specs.Calls.{Step, Run, step, run, Done, goes, roomy, makes, runCycles}
 
--- ---- the tests of the answers, and those of the cycles
 -- a count that fits is 1,000,000 where it is not below
 cycles-test : (s : State) (d : ℕ) → s .cycles ≡ d → s .cycles ≤ 1000000 → eqb (s .cycles) 1000000 ≡ not (ltb d 1000000)
 cycles-test s d e h =
@@ -32,14 +32,6 @@ cycles-test s d e h =
     (λ (l : d < 1000000). rw (lt-ltb d 1000000 l) (ne-eqb (s .cycles) 1000000 (λ q. omega arith)))
     (λ (l : 1000000 ≤ d). rw (le-ltb d 1000000 l) (eq-eqb (s .cycles) 1000000 (omega arith)))
     (lt-or-ge d 1000000)
-
--- an array is too short where it has not places enough
-short-test : (have need : ℕ) → ltb have need ≡ not (leb need have)
-short-test have need =
-    ⊎-elim
-    (λ (l : have < need). rw (lt-ltb have need l, lt-leb need have l))
-    (λ (l : need ≤ have). rw (le-ltb have need l, le-leb need have l))
-    (lt-or-ge have need)
 
 -- ---- a step. Its number: 0 if it makes a cycle, else the first of the three that can be
 abbrev pub chosen : Bool → Bool → Bool → ℕ
@@ -68,8 +60,8 @@ module _ (img : List ℕ) (a : Accepted img) (s : State) (ok : Fitting img s) (d
         accepts img a,
         fits-fitting img a s ok,
         cycles-test s d e (ok .cycled),
-        short-test (length (x .letters)) (channels img),
-        short-test (length (x .values)) (channels img),
+        ltb-leb (length (x .letters)) (channels img),
+        ltb-leb (length (x .values)) (channels img),
       )
       (order (ltb d 1000000) (setsAbove (nodes img) (x .word)) (leb (channels img) (length (x .letters))) (leb (channels img) (length (x .values))))
     where

@@ -1,46 +1,36 @@
 -- What has arrived on a channel is the first so many of its strict stream. Assumes nothing.
 use mathlib.Core.Bool.{Bool, true, false}
 use mathlib.Core.List.{List, [], _∷_, _++_}
-use mathlib.Core.Path.{_≡_, refl, ap}
-use Prim.Native.Nat.{ℕ, _+_, _<_, _≤_}
-use native.Mathlib.Nat.{not-suc-le-zero}
+use mathlib.Core.Path.{_≡_, ap}
+use Prim.Native.Nat.{ℕ, _+_, _<_}
 use native.Mathlib.Omega.{arith}
 use lib.Dec.{eqb}
 use lib.IntN.{ℤ}
-use lib.ListN.{length, length-append}
+use lib.ListN.{length}
 use Rattle.laws.specs.Lists.{oneIf}
+use Rattle.laws.specs.Stretch.{Stretch}
+use Rattle.laws.specs.StretchLaws.{stretch-append, stretch-first, stretch-second, stretch-table}
 use Rattle.laws.specs.Table.{table}
 use Rattle.netlist.specs.Image.{channels, to, depth}
 use Rattle.netlist.specs.Accepted.{Accepted}
 use Rattle.strict.specs.Strict.{stream}
-use Rattle.relay.specs.Link.{linkOf, letter, reading, passing}
+use Rattle.relay.specs.Link.{passing}
+use Rattle.relay.specs.LinkLaws.{letter-passing}
 use Rattle.relay.specs.Row.{leaving, contents}
 use Rattle.relay.specs.RowLaws.{leaving-first, behind}
-use Rattle.shell.specs.Channel.{Channel, tokens, arriving, input, stopBelow, seen, channelAfter}
-use Rattle.shell.specs.ChannelLaws.{still-ready}
+use Rattle.shell.specs.Channel.{Channel, tokens, arriving, stopBelow, seen}
 use Rattle.engine.specs.declared.State.{State}
 use Rattle.engine.specs.State.{firingsAt, channelIn}
+use Rattle.engine.specs.StateLaws.{arriving-few}
 use Rattle.engine.specs.Fresh.{freshState}
-use Rattle.engine.specs.Cycle.{inputAt, seenAt, fires, channelNext, stateAfter}
-use Rattle.engine.specs.CycleLaws.{channel-next, firings-next, fires-ready}
+use Rattle.engine.specs.FreshLaws.{fresh-firings, fresh-channel}
+use Rattle.engine.specs.Cycle.{seenAt, stateAfter}
+use Rattle.engine.specs.CycleLaws.{firings-next, queue-next}
 use Rattle.engine.specs.Counters.{Steady}
-use Rattle.engine.specs.FittingLaws.{length-dropped, fresh-firings, fresh-channel, fitting-fresh, fitting-steady, arriving-few, steady-next}
-use Rattle.token_rule.specs.Stretch.{Stretch}
-use Rattle.token_rule.specs.StretchLaws.{stretch-append, stretch-first, stretch-second, stretch-table}
+use Rattle.engine.specs.FittingLaws.{fitting-fresh, fitting-steady, steady-next}
 use Rattle.token_rule.specs.Safety.{Sound}
 use Rattle.token_rule.specs.SafetyLaws.{sound-fresh, sound-next}
 use Rattle.token_rule.specs.Cycles.{arrivals}
-
--- the value of a letter T is what passes
-letter-passing :
-    (link : List ℤ) (stop : Bool) → length link ≤ 1
-    → let r = reading (linkOf link) stop in oneIf (eqb (r .letter) 84) (r .value) ≡ passing link stop
-unfolding linkOf letter reading
-letter-passing [] true h = refl
-letter-passing [] false h = refl
-letter-passing (x ∷ []) true h = refl
-letter-passing (x ∷ []) false h = refl
-letter-passing (x ∷ y ∷ link) stop h = absurd (not-suc-le-zero {n = 0} (omega arith))
 
 stretch-passing : (f : ℕ → ℤ) (a : ℕ) (link : List ℤ) (stop : Bool) → Stretch f a link → Stretch f a (passing link stop)
 unfolding Stretch
@@ -74,18 +64,8 @@ module _ (img : List ℕ) (s : State) (c : ℕ) where
 
 module _ (img : List ℕ) (a : Accepted img) (c : ℕ) (h : c < channels img) where
   arrived-next : (w : ℕ) (s : State) → arrivedSoFar img (stateAfter img w s) c ≡ arrivedSoFar img s c + length (arrivingNow img s c)
-  unfolding arrivingNow arrivedSoFar channelNext channelAfter stopBelow inputAt input
-  arrived-next w s =
-      let ch = channelIn img s c in
-      let takes = fires img w s (to img c) in
-      let all = ch .queue ++ arrivingNow img s c in
-      omega (
-        arith,
-        firings-next img a w s (to img c) (a .wires c h .1),
-        ap (λ (x : Channel). length (x .queue)) (channel-next img a w s c h),
-        length-dropped takes all (λ f. still-ready (depth img c) (ch .queue) (arriving ch) (a .queues c h .0) (fires-ready img w s c h f)),
-        length-append (ch .queue) (arrivingNow img s c),
-      )
+  unfolding arrivingNow arrivedSoFar
+  arrived-next w s = omega (arith, firings-next img a w s (to img c) (a .wires c h .1), queue-next img w s c h a)
 
   -- what arrives from a state on goes on in the stream where what has arrived before ends
   arrivals-next :

@@ -1,15 +1,15 @@
 -- Laws of a list of cycles: lists after one another, what the last state counts, and what every cycle keeps. Assumes nothing.
 use mathlib.Core.List.{List, [], _∷_, _++_}
 use mathlib.Core.Path.{_≡_, refl}
-use Prim.Native.Nat.{ℕ, suc, _+_, _<_, _≤_}
+use Prim.Native.Nat.{ℕ, _+_, _<_, _≤_}
 use native.Mathlib.Omega.{arith}
 use lib.ListN.{length}
 use Rattle.netlist.specs.Image.{nodes}
 use Rattle.netlist.specs.Accepted.{Accepted}
 use Rattle.engine.specs.declared.State.{State}
-use Rattle.engine.specs.State.{firingsAt, stateOf}
+use Rattle.engine.specs.State.{firingsAt}
 use Rattle.engine.specs.Cycle.{stateAfter, after}
-use Rattle.engine.specs.CycleLaws.{firings-next}
+use Rattle.engine.specs.CycleLaws.{cycles-next, firings-next}
 use Rattle.engine.specs.Fitting.{Fitting}
 use Rattle.engine.specs.Counters.{Steady}
 use Rattle.engine.specs.FittingLaws.{steady-next, fitting-next}
@@ -23,10 +23,6 @@ after-append img s [] vs = refl
 after-append img s (u ∷ us) vs = after-append img (stateAfter img u s) us vs
 
 -- the state's own counts
-pub cycles-next : (img : List ℕ) (w : ℕ) (s : State) → stateAfter img w s .cycles ≡ suc (s .cycles)
-unfolding stateAfter stateOf
-cycles-next img w s = refl
-
 pub cycles-after : (img : List ℕ) (s : State) (words : List ℕ) → after img s words .cycles ≡ s .cycles + length words
 unfolding after
 cycles-after img s [] = omega arith

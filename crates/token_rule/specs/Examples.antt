@@ -5,7 +5,7 @@ use mathlib.Core.Path.{_≡_, refl}
 use Prim.Native.Nat.{ℕ}
 use lib.IntN.{ℤ, pos}
 use lib.ListN.{replicate}
-use Rattle.laws.specs.Below.{allBelow, anyBelow, pickBelow}
+use Rattle.laws.specs.Below.{allBelow, anyBelow, mostBelow, pickBelow}
 use Rattle.laws.specs.Signed.{signed}
 use Rattle.laws.specs.Lists.{padded}
 use Rattle.laws.specs.Table.{table}
@@ -26,7 +26,7 @@ use Rattle.engine.specs.Cycle.{stalled, inputAt, blockedAt, seenAt, allReady, a
 use Rattle.engine.specs.Answer.{setsAbove, stepAnswer, lettersWritten, valuesWritten, runAnswer}
 use Rattle.token_rule.specs.Cycles.{firedIn, arrivals}
 use Rattle.token_rule.specs.Calls.{Call, step, run, returned, Done, Chain, goes, roomy, makes, runCycles, cyclesIn, cyclesOf}
-use Rattle.token_rule.specs.Progress.{mostBelow, mostStations, Awake}
+use Rattle.token_rule.specs.Progress.{mostStations, Awake}
 
 -- ---- the cycles of a list. They follow from what the calls are given, so the answers are left blank here: a step with its word and the lengths of
 -- its arrays, and a run

@@ -5,9 +5,7 @@ pub mod Calls
 pub mod Progress
 pub mod TokenRule
 pub mod Examples
--- What the proof carries: stretches of the strict stream, and a sound state.
-pub mod Stretch
-pub mod StretchLaws
+-- What the proof carries: a sound state.
 pub mod Safety
 pub mod SafetyLaws
 pub mod ArrivalsLaws

@@ -3,16 +3,12 @@
 use mathlib.Core.Bool.{false}
 use mathlib.Core.List.{List, [], _∷_}
 use mathlib.Core.Path.{_≡_}
-use Prim.Native.Nat.{ℕ, zero, suc, _<_, _≤_, max}
+use Prim.Native.Nat.{ℕ, _<_, _≤_}
+use Rattle.laws.specs.Below.{mostBelow}
 use Rattle.netlist.specs.Image.{nodes, channels, stations}
 use Rattle.engine.specs.declared.State.{State}
 use Rattle.engine.specs.State.{firingsAt}
 use Rattle.engine.specs.Cycle.{stalled}
-
--- for laws: the largest of f 0, f 1, .., f (n - 1), and 0 if there is none
-unfoldable pub mostBelow : (ℕ → ℕ) → ℕ → ℕ
-mostBelow f zero = 0
-mostBelow f (suc n) = max (mostBelow f n) (f n)
 
 -- "R is the largest station count on any channel, or 0 without channels."
 unfoldable pub mostStations : List ℕ → ℕ

@@ -7,29 +7,23 @@ use Prim.Native.Nat.{ℕ, zero, suc, _+_, _<_, _≤_}
 use native.Mathlib.Nat.{not-suc-le-zero}
 use native.Mathlib.Omega.{arith}
 use lib.ListN.{length}
-use Rattle.laws.specs.Cases.{true-or-false, below-suc}
+use Rattle.laws.specs.BelowLaws.{most-at}
+use Rattle.laws.specs.Cases.{true-or-false}
 use Rattle.netlist.specs.Image.{nodes, channels, from, to, stations}
 use Rattle.netlist.specs.Accepted.{Accepted}
 use Rattle.engine.specs.declared.State.{State}
 use Rattle.engine.specs.State.{firingsAt}
 use Rattle.engine.specs.Counters.{entered, Steady}
 use Rattle.engine.specs.CountersLaws.{entered-source, entered-taken, limit-taken, entered-next, enabled-fires}
-use Rattle.engine.specs.Cycle.{stalled, fires, stateAfter, after}
+use Rattle.engine.specs.Cycle.{stalled, fires, stateAfter}
 use Rattle.engine.specs.CycleLaws.{firings-next}
 use Rattle.engine.specs.FittingLaws.{steady-next}
 use Rattle.token_rule.specs.Cycles.{firedIn}
-use Rattle.token_rule.specs.CyclesLaws.{firings-after}
-use Rattle.token_rule.specs.Progress.{mostBelow, mostStations, Furthest, Awake}
+use Rattle.token_rule.specs.Progress.{mostStations, Furthest, Awake}
 
--- for laws
-pub most-at : (f : ℕ → ℕ) (k n : ℕ) → k < n → f k ≤ mostBelow f n
-unfolding mostBelow
-most-at f k zero h = absurd (not-suc-le-zero h)
-most-at f k (suc n) h = ⊎-elim (λ (e : k ≡ n). rw e (omega arith)) (λ (l : k < n). omega (arith, most-at f k n l)) (below-suc h)
-
-pub few-stations : (img : List ℕ) (c : ℕ) → c < channels img → stations img c ≤ mostStations img
+stations-most : (img : List ℕ) (c : ℕ) → c < channels img → stations img c ≤ mostStations img
 unfolding mostStations
-few-stations img c h = most-at (stations img) c (channels img) h
+stations-most img c h = most-at (stations img) c (channels img) h
 
 -- node n is furthest behind, and its next token has entered the places up to k of each of its inputs
 record Coming (img : List ℕ) (s : State) (n k : ℕ) : Type 0 where
@@ -89,7 +83,7 @@ module _ (img : List ℕ) (a : Accepted img) (n : ℕ) (there : n < nodes img) w
         (true-or-false (fires img w s n))
 
     -- R may be any number that no channel's station count is over. At the start each input's next token has been made
-    pub progress-within :
+    progress-within :
         (s : State) → Steady img s → Furthest img s n → (words : List ℕ) → length words ≡ suc R → Awake n words → 1 ≤ firedIn img s words n
     progress-within s ok behind [] e awake = absurd (not-suc-le-zero {n = R} (omega arith))
     progress-within s ok behind (w ∷ ws) e awake = fired-within w ws s 0 ok (record { furthest = behind; ahead = made }) (omega arith) awake
@@ -98,14 +92,8 @@ module _ (img : List ℕ) (a : Accepted img) (n : ℕ) (there : n < nodes img) w
         made c h q zero l k = omega (arith, entered-source img s c, behind (from img c) (a .wires c h .0))
         made c h q (suc j) l k = absurd (not-suc-le-zero l)
 
-    -- so the count of its firings rises
-    pub firings-rise :
-        (s : State) → Steady img s → Furthest img s n → (words : List ℕ) → length words ≡ suc R → Awake n words
-        → firingsAt s n < firingsAt (after img s words) n
-    firings-rise s ok behind words e awake = omega (arith, progress-within s ok behind words e awake, firings-after img a n there words s)
-
 -- THE PROGRESS PART OF DEMAND 3
 pub progress :
     (img : List ℕ) → Accepted img → (s : State) → Steady img s → (n : ℕ) → n < nodes img → Furthest img s n
     → (words : List ℕ) → length words ≡ suc (mostStations img) → Awake n words → 1 ≤ firedIn img s words n
-progress img a s ok n there behind words e awake = progress-within img a n there (mostStations img) (few-stations img) s ok behind words e awake
+progress img a s ok n there behind words e awake = progress-within img a n there (mostStations img) (stations-most img) s ok behind words e awake

@@ -3,12 +3,12 @@
 use mathlib.Core.List.{List}
 use mathlib.Core.Path.{_≡_}
 use Prim.Native.Nat.{ℕ, _<_}
+use Rattle.laws.specs.Stretch.{Stretch}
 use Rattle.netlist.specs.Image.{nodes, channels, to}
 use Rattle.strict.specs.Strict.{strict, stream}
 use Rattle.shell.specs.Channel.{tokens}
 use Rattle.engine.specs.declared.State.{State}
 use Rattle.engine.specs.State.{valueAt, firingsAt, channelIn}
-use Rattle.token_rule.specs.Stretch.{Stretch}
 
 pub record Sound (img : List ℕ) (s : State) : Type 0 where
   -- a node that has fired k times shows the strict value of cycle k

@@ -10,9 +10,11 @@ use lib.IntN.{ℤ}
 use lib.ListN.{length, length-append}
 use Rattle.laws.specs.Choice.{_if_else_}
 use Rattle.laws.specs.Lists.{oneIf, dropIf}
+use Rattle.laws.specs.Stretch.{Stretch}
+use Rattle.laws.specs.StretchLaws.{stretch-append, stretch-one, stretch-drop}
 use Rattle.netlist.specs.Image.{nodes, channels, from, to}
 use Rattle.netlist.specs.Accepted.{Accepted}
-use Rattle.netlist.specs.Alike.{Alike}
+use Rattle.netlist.specs.AlikeLaws.{alike-same}
 use Rattle.node.specs.Node.{nextOf}
 use Rattle.node.specs.NodeLaws.{next-same}
 use Rattle.strict.specs.Strict.{strict, stream}
@@ -26,28 +28,17 @@ use Rattle.engine.specs.declared.State.{State}
 use Rattle.engine.specs.State.{valueAt, firingsAt, channelIn}
 use Rattle.engine.specs.Fresh.{freshState}
 use Rattle.engine.specs.Cycle.{inputAt, fires, stateAfter}
-use Rattle.engine.specs.CycleLaws.{value-next, firings-next, fires-ready, tokens-next}
+use Rattle.engine.specs.CycleLaws.{value-next, firings-next, fires-ready, fires-holds, tokens-next}
 use Rattle.engine.specs.Counters.{Steady}
-use Rattle.engine.specs.FittingLaws.{fresh-node, fresh-firings, fresh-tokens, fires-holds, steady-next}
-use Rattle.token_rule.specs.Stretch.{Stretch}
-use Rattle.token_rule.specs.StretchLaws.{stretch-append, stretch-drop}
+use Rattle.engine.specs.FreshLaws.{fresh-node, fresh-firings, fresh-tokens}
+use Rattle.engine.specs.FittingLaws.{steady-next}
 use Rattle.token_rule.specs.Safety.{Sound}
-
--- an image is like itself
-alike-same : (img : List ℕ) → Alike img img
-alike-same img = record { sizes = (refl, refl); cores = λ n h. (refl, refl); wires = λ c h. (refl, refl, refl) }
 
 -- the first of a stretch, where a link shows it
 shown-first : (f : ℕ → ℤ) (a : ℕ) (xs : List ℤ) → linkOf xs .valid ≡ true → Stretch f a xs → linkOf xs .value ≡ f a
 unfolding linkOf Stretch
 shown-first f a [] e s = absurd (false≢true e)
 shown-first f a (x ∷ xs) e s = s .0
-
--- one token or none
-stretch-one : (f : ℕ → ℤ) (a : ℕ) (b : Bool) (v : ℤ) → (b ≡ true → v ≡ f a) → Stretch f a (oneIf b v)
-unfolding Stretch
-stretch-one f a true v h = (h refl, tt)
-stretch-one f a false v h = tt
 
 -- the new value where the node fires, and the old one where it does not
 settle : (b : Bool) (f : ℕ → ℤ) (k : ℕ) (new old : ℤ) → (b ≡ true → new ≡ f (suc k)) → old ≡ f k → (new if b else old) ≡ f (k + (1 if b else 0))
@@ -111,7 +102,7 @@ module _ (img : List ℕ) (a : Accepted img) where
           let makes = fires img w s (from img c) in
           let kept : Stretch (stream img c) (firingsAt t (to img c)) (dropIf takes now) =
           rw (firings-next img a w s (to img c) (a .wires c h .1))
-          (stretch-drop (stream img c) (firingsAt s (to img c)) takes now (fires-holds img a w s steady c h) (ok .streamed c h)) in
+          (stretch-drop (stream img c) (firingsAt s (to img c)) takes now (fires-holds img w s c h) (ok .streamed c h)) in
           rw (tokens-next img w s c h a)
           (stretch-append (stream img c) (firingsAt t (to img c)) (dropIf takes now) (oneIf makes (valueAt t (from img c))) kept
           (stretch-one (stream img c) (firingsAt t (to img c) + length (dropIf takes now)) makes (valueAt t (from img c)) sends-next))

@@ -2,7 +2,7 @@
 use mathlib.Core.Bool.{Bool, true, false, not}
 use mathlib.Core.List.{List, [], _∷_, _++_, append-nil}
 use mathlib.Core.Logic.{_≢_}
-use mathlib.Core.Path.{_≡_, refl, sym, ap, subst, _∙_}
+use mathlib.Core.Path.{_≡_, sym, ap, subst, _∙_}
 use Prim.Native.Nat.{ℕ, _+_, _<_, _≤_}
 use native.Mathlib.Nat.{zero-add}
 use native.Mathlib.Omega.{arith}
@@ -16,10 +16,11 @@ use Rattle.netlist.specs.Judge.{judge}
 use Rattle.strict.specs.Strict.{strict}
 use Rattle.engine.specs.declared.Fresh.{Fresh}
 use Rattle.engine.specs.declared.State.{State}
-use Rattle.engine.specs.State.{firingsAt, stateOf}
+use Rattle.engine.specs.State.{firingsAt}
 use Rattle.engine.specs.Fresh.{freshState, freshAnswer}
 use Rattle.engine.specs.Fitting.{Fitting}
-use Rattle.engine.specs.FittingLaws.{fresh-firings, fitting-fresh, fitting-steady}
+use Rattle.engine.specs.FreshLaws.{fresh-cycles, fresh-firings}
+use Rattle.engine.specs.FittingLaws.{fitting-fresh, fitting-steady}
 use Rattle.engine.specs.Answer.{setsAbove}
 use Rattle.engine.specs.Done.{FreshDone}
 use Rattle.engine.specs.Cycle.{after}
@@ -43,10 +44,6 @@ no-other k false false true e = (λ h. omega arith, λ h. omega arith)
 no-other k false false false e = (λ h. omega arith, λ h. omega arith)
 
 -- ---- the fresh state
-fresh-cycles : (img : List ℕ) → freshState img .cycles ≡ 0
-unfolding freshState stateOf
-fresh-cycles img = refl
-
 module _ (img : List ℕ) (a : Accepted img) where
   fired-after : (words : List ℕ) (n : ℕ) → n < nodes img → firingsAt (after img (freshState img) words) n ≡ firedIn img (freshState img) words n
   fired-after words n h = omega (arith, firings-after img a n h words (freshState img), fresh-firings img n h)

@@ -1,5 +1,5 @@
 -- `engine::sets_above` meets its contract. Assumes nothing.
-use mathlib.Core.Path.{_≡_, refl}
+use mathlib.Core.Path.{refl}
 use Prim.Native.Nat.{_<_, _^_}
 use native.Mathlib.Nat.{div-eq-of-lt}
 use Rattle.engine.specs.Answer.{setsAbove}

@@ -3,7 +3,6 @@ use mathlib.Core.Path.{_≡_, _∙_}
 use Prim.Native.Nat.{_≤_}
 use native.Mathlib.Omega.{arith}
 use borrow.Author.Needs.{needs}
-use Rattle.netlist.specs.Image.{nodes}
 use Rattle.netlist.specs.Judge.{judge}
 use Rattle.strict.specs.AnswerLaws.{number-judge, number-14, number-13, number-0}
 use Rattle.strict.proofs.number.Statement.{statement}

@@ -1,9 +1,9 @@
 -- `engine::cycle::cycles` meets its contract. The invariants: the cycles of the first t words are made (loop), the channels below c are scanned
 -- (loop2), the nodes below n are gated (loop3), the channels below c have moved (loop4), and of channel c's stations those below j (loop5).
 -- Assumes nothing.
-use mathlib.Core.Bool.{Bool, true, false}
+use mathlib.Core.Bool.{Bool}
 use mathlib.Core.List.{List}
-use mathlib.Core.Logic.{_⊎_, inl, inr, ⊎-elim}
+use mathlib.Core.Logic.{inl, inr, ⊎-elim}
 use mathlib.Core.Path.{_≡_, refl, sym, ap, _∙_}
 use Prim.Native.Nat.{ℕ, _≤_, _<_, _+_, _*_, _-_}
 use native.Mathlib.Nat.{add-zero}

@@ -1,6 +1,6 @@
 -- `engine::cycle::kinds_of` meets its contract. The loop's invariant: the nodes below n are read. Assumes nothing.
-use mathlib.Core.Path.{_≡_, refl, ap, _∙_}
-use Prim.Native.Nat.{ℕ, _≤_, _<_, _-_}
+use mathlib.Core.Path.{_≡_, refl, ap}
+use Prim.Native.Nat.{_≤_, _<_, _-_}
 use native.Mathlib.Numerals.{add-one}
 use native.Mathlib.Omega.{arith}
 use Rattle.laws.specs.Lists.{padded}
