@@ -221,8 +221,7 @@ module _ (img : List ℕ) (w : ℕ) (s : State) (ok : Steady img s) (n : ℕ) wh
 
   pub enabled-fires : Enabled img s w n → fires img w s n ≡ true
   enabled-fires e =
-      fires-iff img w s n .1
-      (
+      fires-iff img w s n .1 (
         (
           e .awake,
           λ c h q. ready-count img s ok c h ∙ lt-ltb (firingsAt s (to img c)) (entered img s c (stations img c)) (rw q (e .fed c h q)),

@@ -58,7 +58,8 @@ module _ (img : List ℕ) (s : State) where
   -- so that a state where it is too much does not pass
   unfoldable pub balanced : ℕ → Bool
   balanced c =
-      eqb (markAt s c + sumBelow (λ j. stationAt s c j .count) (stations img c) + queueAt s c .count + firingsAt s (to img c)) (firingsAt s (from img c) + 1)
+      eqb (markAt s c + sumBelow (λ j. stationAt s c j .count) (stations img c) + queueAt s c .count + firingsAt s (to img c))
+      (firingsAt s (from img c) + 1)
 
   unfoldable pub fits : Bool
   fits = cyclesFit && firingsFit && marksFit && countsFit && unusedClear && allBelow balanced (channels img)

@@ -3,6 +3,7 @@ use mathlib.Core.Bool.{Bool, true, false, not, _&&_, _||_}
 use mathlib.Core.List.{List, [], _++_}
 use mathlib.Core.Path.{_≡_, refl, sym, ap, _∙_}
 use Prim.Native.Nat.{ℕ, suc, _+_, _-_, _*_, _<_, _≤_}
+use native.Mathlib.Nat.{add-zero}
 use native.Mathlib.Omega.{arith}
 use lib.Dec.{eqb}
 use lib.IntN.{ℤ, pos}
@@ -91,9 +92,9 @@ module _ (img : List ℕ) (s : State) (c : ℕ) where
         → stationOf (placeAfter (token link) (held (stationAt s c j)) stop) ≡ stationNext img w s (8 * c + j)
     unfolding stationNext channelNext channelAfter linkIn stopIn
     station-turn j h short link stop e f =
+        let ch = channelIn img s c in
         rw (e, f, place-channel c j (omega arith), place-station c j (omega arith), ← (row-at img s c j h))
-        (ap stationOf
-        (sym (after-at (channelIn img s c .source) (channelIn img s c .row) (stopBelow (depth img c) (channelIn img s c)) j (rw (length-row img s c) h))))
+        (ap stationOf (sym (after-at (ch .source) (ch .row) (stopBelow (depth img c) ch) j (rw (length-row img s c) h))))
 
     pub mark-turn :
         (pending stop fired : Bool) → pending ≡ eqb (markAt s c) 1 → stop ≡ stopIn 0 → fired ≡ fires img w s (from img c)
@@ -199,15 +200,11 @@ module _ (img : List ℕ) (s : State) (n : ℕ) where
   unfolding broughtBelow nextOf portValue
   taken-turn a h v =
       let f : ℕ → ℤ = λ c. inputAt img s c .value in
-      let w = accepted-wired img a in
-      let m : n < 64 = omega (arith, a .few-nodes) in
-      let z : getD (portsBelow img f (pos 0) (channels img)) (3 * n) (pos 0) ≡ pickBelow (feeds img n 0) f (pos 0) (channels img) =
-      ap (λ (k : ℕ). getD (portsBelow img f (pos 0) (channels img)) k (pos 0)) (omega arith) ∙ ports-at img f (pos 0) (channels img) w n 0 m (omega arith) in
-      rw (
-        z,
-        ports-at img f (pos 0) (channels img) w n 1 m (omega arith),
-        ports-at img f (pos 0) (channels img) w n 2 m (omega arith),
-      )
+      let ports = portsBelow img f (pos 0) (channels img) in
+      let at : (p : ℕ) → p < 3 → getD ports (3 * n + p) (pos 0) ≡ pickBelow (feeds img n p) f (pos 0) (channels img) =
+      λ p l. ports-at img f (pos 0) (channels img) (accepted-wired img a) n p (omega (arith, a .few-nodes)) l in
+      let first : getD ports (3 * n) (pos 0) ≡ getD ports (3 * n + 0) (pos 0) = rw add-zero in
+      rw (first, at 0 (omega arith), at 1 (omega arith), at 2 (omega arith))
 
 -- ---- the loops leave the state after the cycle
 pub cycle-done :

@@ -36,8 +36,11 @@ use Rattle.engine.specs.State.{noNode, noQueue, nodeAt, markAt, stationA
 use Rattle.engine.specs.Cycle.{stalled, inputAt, blockedAt, fires, nodeAfter, stateAfter, after}
 use Rattle.engine.specs.Fitting.{Fitting}
 use Rattle.engine.specs.FittingLaws.{nodes-long, pending-long, stations-long, queues-long, queue-count}
-use Rattle.engine.specs.Parts.{kindsBelow, starvedBelow, broughtBelow, blockedBelow, firesBelow, nodesBelow, stationNext, queueNext, markNext, movedBelow}
-use Rattle.engine.specs.PartsLaws.{linkIn, stopIn, link-source, link-above, link-last, stop-inside, stop-last, starved-turn, blocked-turn, brought-turn, input-at, blocked-at, station-turn, mark-turn, queue-turn, row-skip, gate-turn, taken-turn, kind-read, cycle-done}
+use Rattle.engine.specs.Parts.{kindsBelow, starvedBelow, broughtBelow, blockedBelow, firesBelow, nodesBelow}
+use Rattle.engine.specs.Parts.{stationNext, queueNext, markNext, movedBelow}
+use Rattle.engine.specs.PartsLaws.{linkIn, stopIn, link-source, link-above, link-last, stop-inside, stop-last, input-at, blocked-at, kind-read}
+use Rattle.engine.specs.PartsLaws.{starved-turn, blocked-turn, brought-turn, station-turn, mark-turn, queue-turn, gate-turn, taken-turn}
+use Rattle.engine.specs.PartsLaws.{row-skip, cycle-done}
 
 -- a state with another node n; with another queue c
 abbrev pub withNode : State → ℕ → Node → State
@@ -49,15 +52,20 @@ withQueue t c queue =
     record { cycles = t .cycles; nodes = t .nodes; pending = t .pending; stations = t .stations; queues = set (t .queues) c queue }
 
 -- a queue whose node does not fire, and to which nothing passes, stays
-stays : (q : Queue) (link : Link) (stop fired : Bool) → fired ≡ false → link .valid && not stop ≡ false → queueAfter q (passing (token link) stop) fired ≡ q
+stays :
+    (q : Queue) (link : Link) (stop fired : Bool) → fired ≡ false → link .valid && not stop ≡ false
+    → queueAfter q (passing (token link) stop) fired ≡ q
 unfolding queueAfter pushed
 stays q link stop fired e z = rw (e, push-flag q link stop, z)
 
 -- ---- channel c, as it is read: `wire` has its fields
-module _ (img : List ℕ) (a : Accepted img) (s : State) (fit : Fitting img s) (c : ℕ) (h : c < channels img) (wire : Wire) (e : wire ≡ channelAt img c) where
+module _
+    (img : List ℕ) (a : Accepted img) (s : State) (fit : Fitting img s) (c : ℕ) (h : c < channels img) (wire : Wire) (e : wire ≡ channelAt img c)
+    where
   -- link 0
   pub source-read :
-      (v : ℤ) → v ≡ getD (s .nodes) (wire .from) noNode .value → token (record { valid = eqb (getD (s .pending) c 0) 1; value = v }) ≡ linkIn img s c 0
+      (v : ℤ) → v ≡ getD (s .nodes) (wire .from) noNode .value
+      → token (record { valid = eqb (getD (s .pending) c 0) 1; value = v }) ≡ linkIn img s c 0
   unfolding channelAt markAt nodeAt
   source-read v q =
       ap (λ (x : ℤ). token (record { valid = eqb (getD (s .pending) c 0) 1; value = x }))
@@ -89,7 +97,8 @@ module _ (img : List ℕ) (a : Accepted img) (s : State) (fit : Fitting img s) (
 
   -- what link j + 1 shows
   pub link-read :
-      (j : ℕ) → j < wire .stations → (link : Link) → link ≡ linkOf (held (getD (s .stations) (8 * c + j) noStation)) → token link ≡ linkIn img s c (j + 1)
+      (j : ℕ) → j < wire .stations → (link : Link) → link ≡ linkOf (held (getD (s .stations) (8 * c + j) noStation))
+      → token link ≡ linkIn img s c (j + 1)
   unfolding channelAt stationAt
   link-read j l link q =
       let r : wire .stations ≡ stations img c = ap (λ (w : Wire). w .stations) e in
@@ -127,7 +136,8 @@ module _ (img : List ℕ) (a : Accepted img) (s : State) (fit : Fitting img s) (
   unfolding channelAt
   blocked-read held-back q b r = rw (add-one, e, q) (blocked-turn img s c (omega (arith, a .wires c h, a .few-nodes)) b r)
 
-  pub input-read : (link : Link) → token link ≡ arriving (channelIn img s c) → linkOf (waiting (getD (s .queues) c noQueue) ++ token link) ≡ inputAt img s c
+  pub input-read :
+      (link : Link) → token link ≡ arriving (channelIn img s c) → linkOf (waiting (getD (s .queues) c noQueue) ++ token link) ≡ inputAt img s c
   unfolding queueAt
   input-read link q = input-at img s c link q
 
@@ -155,7 +165,8 @@ module _ (img : List ℕ) (a : Accepted img) (s : State) (fit : Fitting img s) (
     row-turn cycles ns j l t q next p =
         let r : wire .stations ≡ stations img c = ap (λ (w : Wire). w .stations) e in
         let k : 8 * c + (j + 1) ≡ suc (8 * c + j) = omega arith in
-        rw (q, p, k, over-set (stationNext img w s) (8 * c + j) (s .stations) (omega (arith, r, a .rows c h, a .few-channels, stations-long img s fit a)))
+        let there : 8 * c + j < length (s .stations) = omega (arith, r, a .rows c h, a .few-channels, stations-long img s fit a) in
+        rw (q, p, k, over-set (stationNext img w s) (8 * c + j) (s .stations) there)
 
     -- the link that arrives at the queue, behind the last station
     pub last-read : (link : Link) → token link ≡ linkIn img s c (wire .stations) → token link ≡ arriving (channelIn img s c)
@@ -197,7 +208,8 @@ module _ (img : List ℕ) (a : Accepted img) (s : State) (fit : Fitting img s) (
     -- the channel is done
     pub channel-turn :
         (cycles : ℕ) (ns : List Node) (t u : State) → t ≡ movedBelow img w s cycles ns c (8 * c + wire .stations)
-        → ((queue : Queue) × (queue ≡ queueNext img w s c) × (u ≡ withQueue t c queue)) ⊎ ((u ≡ t) × (queueNext img w s c ≡ getD (s .queues) c noQueue))
+        → ((queue : Queue) × (queue ≡ queueNext img w s c) × (u ≡ withQueue t c queue)) ⊎
+        ((u ≡ t) × (queueNext img w s c ≡ getD (s .queues) c noQueue))
         → (mark : ℕ) → mark ≡ markNext img w s c
         → record { cycles = u .cycles; nodes = u .nodes; pending = set (u .pending) c mark; stations = u .stations; queues = u .queues } ≡
         movedBelow img w s cycles ns (c + 1) (8 * (c + 1))
@@ -207,14 +219,14 @@ module _ (img : List ℕ) (a : Accepted img) (s : State) (fit : Fitting img s) (
         let long : c < length (s .pending) = omega (arith, pending-long img s fit a, a .few-channels) in
         let few : c < length (s .queues) = omega (arith, queues-long img s fit a, a .few-channels) in
         let k :
-            u ≡
-            record {
-              cycles = cycles;
-              nodes = ns;
-              pending = tableOver (markNext img w s) c (s .pending);
-              stations = tableOver (stationNext img w s) (8 * c + stations img c) (s .stations);
-              queues = tableOver (queueNext img w s) (suc c) (s .queues);
-            } =
+        u ≡
+        record {
+          cycles = cycles;
+          nodes = ns;
+          pending = tableOver (markNext img w s) c (s .pending);
+          stations = tableOver (stationNext img w s) (8 * c + stations img c) (s .stations);
+          queues = tableOver (queueNext img w s) (suc c) (s .queues);
+        } =
         ⊎-elim
         (λ z. z .2 ∙ rw (z .1, q, r, over-set (queueNext img w s) c (s .queues) few))
         (λ z. z .0 ∙ rw (q, r, over-same-at (queueNext img w s) noQueue c (s .queues) few (z .1)))
