@@ -201,7 +201,7 @@ module _ (img : List ℕ) (s : State) (fit : Fitting img s) (c : ℕ) (h : c < c
         let one : length (arriving ch) ≤ 1 = rw (← e) (token-few link) in
         let few = arrived-few (depth img c) (ch .queue) (arriving ch) (fit .within c h) one in
         rw (queue-written, e, f, g)
-        (after-of (ch .queue) (passing (arriving ch) (full (depth img c) (length (ch .queue)))) (fires img w s (to img c)) 
+        (after-of (ch .queue) (passing (arriving ch) (full (depth img c) (length (ch .queue)))) (fires img w s (to img c))
         (passing-few (arriving ch) (full (depth img c) (length (ch .queue))) one) (omega (arith, few, a .queues c h)))
 
     -- a place past the row's end holds nothing, before the cycle and after it

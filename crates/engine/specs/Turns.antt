@@ -191,9 +191,9 @@ module _ (img : List ℕ) (a : Accepted img) (s : State) (fit : Fitting img s) (
         → (getD now (wire .to) false ≡ fires img w s (to img c)) × (getD now (wire .from) false ≡ fires img w s (from img c))
     unfolding channelAt firesBelow tableOver
     ends-read now q = rw (e, q) (
-        List·getD-append (table (fires img w s) (nodes img)) _ false (to img c) (rw length-table (a .wires c h .1)) ∙ table-at (fires img w s) (nodes img) (to img c) false (a .wires c h .1),
-        List·getD-append (table (fires img w s) (nodes img)) _ false (from img c) (rw length-table (a .wires c h .0)) ∙ table-at (fires img w s) (nodes img) (from img c) false (a .wires c h .0),
-      )
+      List·getD-append (table (fires img w s) (nodes img)) _ false (to img c) (rw length-table (a .wires c h .1)) ∙ table-at (fires img w s) (nodes img) (to img c) false (a .wires c h .1),
+      List·getD-append (table (fires img w s) (nodes img)) _ false (from img c) (rw length-table (a .wires c h .0)) ∙ table-at (fires img w s) (nodes img) (from img c) false (a .wires c h .0),
+    )
 
     pub mark-read :
         (stop fired : Bool) → stop ≡ stopIn img s c 0 → fired ≡ fires img w s (from img c)
@@ -229,14 +229,14 @@ module _ (img : List ℕ) (a : Accepted img) (s : State) (fit : Fitting img s) (
         let long : c < length (s .pending) = omega (arith, pending-long img s fit a, a .few-channels) in
         let few : c < length (s .queues) = omega (arith, queues-long img s fit a, a .few-channels) in
         let k :
-            u ≡
-            record {
-              cycles = cycles;
-              nodes = ns;
-              pending = tableOver (markNext img w s) c (s .pending);
-              stations = tableOver (stationNext img w s) (8 * c + stations img c) (s .stations);
-              queues = tableOver (queueNext img w s) (suc c) (s .queues);
-            } =
+        u ≡
+        record {
+          cycles = cycles;
+          nodes = ns;
+          pending = tableOver (markNext img w s) c (s .pending);
+          stations = tableOver (stationNext img w s) (8 * c + stations img c) (s .stations);
+          queues = tableOver (queueNext img w s) (suc c) (s .queues);
+        } =
         ⊎-elim
         (λ z. z .2 ∙ rw (z .1, q, r, over-set (queueNext img w s) c (s .queues) few))
         (λ z. z .0 ∙ rw (q, r, over-same-at (queueNext img w s) noQueue c (s .queues) few (z .1)))

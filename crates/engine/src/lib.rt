@@ -132,7 +132,13 @@ fn words_taken(nodes: u8, cycles: u32, words: &[u64]) -> Taken
 // and the C values of the cycle to the first places of `letters` and `values`; or it answers a number
 // and the state that it was handed, and writes nothing. The numbers are the judge's, then 21, 22, 12
 // and 13.
-pub fn step(image: &[u8], state: State, word: u64, letters: &mut [u8], values: &mut [i32]) -> Stepped
+pub fn step(
+    image: &[u8],
+    state: State,
+    word: u64,
+    letters: &mut [u8],
+    values: &mut [i32],
+) -> Stepped
     ensures { λ r. ⌜ StepDone (now (image .entry)) state word (now (letters .entry)) (now (values .entry)) r (now (letters .exit)) (now (values .exit)) ⌝ }
 {
     let number = number(image, state, word, letters.len(), values.len());

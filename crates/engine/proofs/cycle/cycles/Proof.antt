@@ -91,9 +91,9 @@ net c = c .before .before .before .before .before .before .pre .0
 
 few : (c : tie.After-kinds-of Inv-loop2 μ-loop2 Inv-loop3 μ-loop3 Inv-loop5 μ-loop5 Inv-loop4 μ-loop4 Inv-loop μ-loop) → (c .before .before .channels .result ≤ 96) × (c .before .before .before .nodes .result ≤ 64)
 few c = (
-    omega (arith, c .before .before .channels .ensures, net c .few-channels),
-    omega (arith, c .before .before .before .nodes .ensures, net c .few-nodes),
-  )
+  omega (arith, c .before .before .channels .ensures, net c .few-channels),
+  omega (arith, c .before .before .before .nodes .ensures, net c .few-nodes),
+)
 
 -- what is read of channel i
 abbrev readAt : tie.After-kinds-of Inv-loop2 μ-loop2 Inv-loop3 μ-loop3 Inv-loop5 μ-loop5 Inv-loop4 μ-loop4 Inv-loop μ-loop → ℕ → Wire
@@ -783,8 +783,7 @@ loop2-again c = let k = (c .before .before .before .before .before .before .befo
     (λ d. inr (omega (arith, d .0 .left), d .2 ∙ (c .before .before .before .before .before .before) .full .ensures ∙ full-read (img k) (net k) s fit i h _ e))
     (join .came)) in
     let input : (c .before .before .before .before) .input .result ≡ inputAt (img k) s i =
-    (c .before .before .before .before) .input .ensures ∙ input-read (img k) (net k) s fit i h _ e (join .link) link in
-    (
+    (c .before .before .before .before) .input .ensures ∙ input-read (img k) (net k) s fit i h _ e (join .link) link in (
       omega arith,
       starved-read (img k) (net k) s fit i h _ e _ (inv .1) _ (ap (λ (x : Link). x .valid) input),
       brought-read (img k) (net k) s fit i h _ e _ (inv .2) _ (toZ-ofZ g ∙ ap (λ (x : Link). x .value) input),
