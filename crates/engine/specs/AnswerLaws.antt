@@ -67,16 +67,17 @@ module _ (img : List ℕ) (s : State) where
     unfolding stepNumber
     number-rest e = let r = state-ok e in rw (r .0, r .1)
 
-    pub number-22 : stateNumber img s ≡ 0 → s .cycles ≡ 1000000 → 22 ≡ stepNumber img s word letters values
-    number-22 e d = rw (number-rest e, eq-eqb (s .cycles) 1000000 d)
+    pub number-22 : stateNumber img s ≡ 0 → eqb (s .cycles) 1000000 ≡ true → 22 ≡ stepNumber img s word letters values
+    number-22 e d = rw (number-rest e, d)
 
-    pub number-12 : stateNumber img s ≡ 0 → (s .cycles ≡ 1000000 → ⊥) → setsAbove (nodes img) word ≡ true → 12 ≡ stepNumber img s word letters values
-    number-12 e d w = rw (number-rest e, ne-eqb (s .cycles) 1000000 d, w)
+    pub number-12 :
+        stateNumber img s ≡ 0 → eqb (s .cycles) 1000000 ≡ false → setsAbove (nodes img) word ≡ true → 12 ≡ stepNumber img s word letters values
+    number-12 e d w = rw (number-rest e, d, w)
 
     pub number-last :
-        stateNumber img s ≡ 0 → (s .cycles ≡ 1000000 → ⊥) → setsAbove (nodes img) word ≡ false
+        stateNumber img s ≡ 0 → eqb (s .cycles) 1000000 ≡ false → setsAbove (nodes img) word ≡ false
         → (13 if ltb letters (channels img) || ltb values (channels img) else 0) ≡ stepNumber img s word letters values
-    number-last e d w = rw (number-rest e, ne-eqb (s .cycles) 1000000 d, w)
+    number-last e d w = rw (number-rest e, d, w)
 
     -- 0 says that nothing stands in the way of a cycle
     pub number-ok :

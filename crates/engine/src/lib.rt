@@ -88,13 +88,16 @@ fn number(image: &[u8], state: State, word: u64, letters: usize, values: usize) 
     if refused != 0 {
         return refused;
     }
-    if state.cycles == State::CYCLES {
+    let late = state.cycles == State::CYCLES;
+    let above = sets_above(word, nodes);
+    let short = (letters < channels) | (values < channels);
+    if late {
         return 22;
     }
-    if sets_above(word, nodes) {
+    if above {
         return 12;
     }
-    if (letters < channels) | (values < channels) {
+    if short {
         return 13;
     }
     0
@@ -108,13 +111,15 @@ fn words_taken(nodes: u8, cycles: u32, words: &[u64]) -> Taken
     let room = (State::CYCLES - cycles) as usize;
     let mut i: usize = 0;
     while i < words.len() {
-        if i == room {
+        let late = i == room;
+        let above = sets_above(words[i], nodes);
+        if late {
             return Taken {
                 steps: i,
                 number: 22,
             };
         }
-        if sets_above(words[i], nodes) {
+        if above {
             return Taken {
                 steps: i,
                 number: 12,

@@ -1,7 +1,9 @@
 -- `engine::words_taken` meets its contract. The loop's invariant: i words are taken, and then those that the rest gives. Assumes nothing.
+use mathlib.Core.Bool.{false}
 use mathlib.Core.Path.{_≡_, sym, _∙_}
 use Prim.Native.Nat.{ℕ, _≤_, _-_, _+_}
 use native.Mathlib.Omega.{arith}
+use borrow.Author.Tests.{eqb-true, eqb-false}
 use lib.ListN.{length}
 use Rattle.engine.specs.Taken.{takenFrom, takenAfter}
 use Rattle.engine.specs.AnswerLaws.{taken-first, taken-all, taken-22, taken-12, taken-next}
@@ -14,6 +16,10 @@ Inv-loop nodes cycles words room i₀ i = (i ≤ length words) × (i ≤ room) �
 abbrev μ-loop : tie.MeasureT-loop
 μ-loop nodes cycles words room i₀ i = length words - i
 
+-- a cycle is left for word i
+left : (c : tie.Else1 Inv-loop μ-loop) → (c .before .before .before .before .before .before) .args .cycles + (c .before .before .before .before) .loop .i ≡ 1000000 → ⊥
+left c e = eqb-false (c .before .before .before .before .loop .i) (1000000 - c .before .before .before .before .before .before .args .cycles) (c .if1 .left) (omega arith)
+
 sub-room : tie.Need-sub-room Inv-loop μ-loop
 sub-room c = omega arith
 
@@ -22,11 +28,6 @@ cast-room c = omega arith
 
 loop-holds : tie.Need-loop-holds Inv-loop μ-loop
 loop-holds c = let a = (c .before) .args in (omega arith, omega arith, taken-first (a .nodes) (a .cycles) (a .words .now))
-
-returns : tie.Need-returns Inv-loop μ-loop
-returns c = let a = (c .before .before .before .before) .args in
-    let l = (c .before .before) .loop in
-    sym (l .inv .2 ∙ taken-22 (a .nodes) (a .cycles) (a .words .now) (l .i) (omega arith) (omega arith))
 
 mul-sets-above : tie.Need-mul-sets-above Inv-loop μ-loop
 mul-sets-above c = omega arith
@@ -37,10 +38,16 @@ shared-slice-read-sets-above c = omega arith
 sets-above-requires : tie.Need-sets-above-requires Inv-loop μ-loop
 sets-above-requires c κs = omega arith
 
+returns : tie.Need-returns Inv-loop μ-loop
+returns c = let a = (c .before .before .before .before .before .before) .args in
+    let l = (c .before .before .before .before) .loop in
+    let e = eqb-true (l .i) (1000000 - a .cycles) (c .if1 .taken) in
+    sym (l .inv .2 ∙ taken-22 (a .nodes) (a .cycles) (a .words .now) (l .i) (omega arith) (omega (arith, e)))
+
 returns-2 : tie.Need-returns-2 Inv-loop μ-loop
 returns-2 c = let a = (c .before .before .before .before .before .before .before) .args in
     let l = (c .before .before .before .before .before) .loop in
-    sym (l .inv .2 ∙ taken-12 (a .nodes) (a .cycles) (a .words .now) (l .i) (omega arith) (λ e. omega arith) (sym ((c .before) .sets-above .ensures) ∙ c .if2 .taken))
+    sym (l .inv .2 ∙ taken-12 (a .nodes) (a .cycles) (a .words .now) (l .i) (omega arith) (left (c .before)) (sym ((c .before .before) .sets-above .ensures) ∙ c .if2 .taken))
 
 add-i : tie.Need-add-i Inv-loop μ-loop
 add-i c = omega arith
@@ -50,10 +57,11 @@ loop-less c = omega arith
 
 loop-again : tie.Need-loop-again Inv-loop μ-loop
 loop-again c = let a = (c .before .before .before .before .before .before .before) .args in
-    let l = (c .before .before .before .before .before) .loop in (
+    let l = (c .before .before .before .before .before) .loop in
+    let n = left (c .before) in (
       omega arith,
-      omega arith,
-      l .inv .2 ∙ taken-next (a .nodes) (a .cycles) (a .words .now) (l .i) (omega arith) (λ e. omega arith) (sym ((c .before) .sets-above .ensures) ∙ c .if2 .left),
+      omega (arith, n),
+      l .inv .2 ∙ taken-next (a .nodes) (a .cycles) (a .words .now) (l .i) (omega arith) n (sym ((c .before .before) .sets-above .ensures) ∙ c .if2 .left),
     )
 
 returns-3 : tie.Need-returns-3 Inv-loop μ-loop
@@ -70,10 +78,10 @@ words-taken-spec =
     sub-room
     cast-room
     loop-holds
-    returns
     mul-sets-above
     shared-slice-read-sets-above
     sets-above-requires
+    returns
     returns-2
     add-i
     loop-less
