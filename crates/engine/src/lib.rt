@@ -111,15 +111,15 @@ fn words_taken(nodes: u8, cycles: u32, words: &[u64]) -> Taken
     let room = (State::CYCLES - cycles) as usize;
     let mut i: usize = 0;
     while i < words.len() {
-        let late = i == room;
-        let above = sets_above(words[i], nodes);
-        if late {
+        let over = i == room;
+        let refused = sets_above(words[i], nodes);
+        if over {
             return Taken {
                 steps: i,
                 number: 22,
             };
         }
-        if above {
+        if refused {
             return Taken {
                 steps: i,
                 number: 12,
@@ -165,20 +165,20 @@ pub fn step(
 pub fn run(image: &[u8], state: State, words: &[u64]) -> Ran
     ensures { λ r. ⌜ RunDone (now (image .entry)) state (now (words .entry)) r ⌝ }
 {
-    let refused = refusal(image, state);
-    if refused != 0 {
+    let unfit = refusal(image, state);
+    if unfit != 0 {
         return Ran {
             steps: 0,
-            number: refused,
+            number: unfit,
             state,
         };
     }
     let taken = words_taken(netlist::nodes(image), state.cycles, words);
     let steps = taken.steps;
-    let after = cycle::cycles(image, state, &words[0..steps]);
+    let last = cycle::cycles(image, state, &words[0..steps]);
     Ran {
         steps: steps as u32,
         number: taken.number,
-        state: after,
+        state: last,
     }
 }
