@@ -1,8 +1,9 @@
 -- What a step and a run find out before they make a cycle: whether image and state are refused, and which of a run's words are taken.
 use mathlib.Core.Bool.{not}
 use mathlib.Core.List.{List, [], _∷_}
-use Prim.Native.Nat.{ℕ, suc}
+use Prim.Native.Nat.{ℕ, suc, _+_}
 use lib.Dec.{eqb}
+use lib.ListN.{drop}
 use Rattle.laws.specs.Choice.{_if_else_}
 use Rattle.netlist.specs.Judge.{judge}
 use Rattle.engine.specs.declared.State.{State}
@@ -24,3 +25,7 @@ takenFrom n d (word ∷ words) =
     record { steps = 0; number = 22 } if eqb d 1000000 else
     record { steps = 0; number = 12 } if setsAbove n word else
     takeMore (takenFrom n (suc d) words)
+
+-- so many words more, for the loop over them: i words are taken, and then those that the rest gives
+unfoldable pub takenAfter : ℕ → ℕ → List ℕ → ℕ → Taken
+takenAfter n d words i = let t = takenFrom n (d + i) (drop i words) in record { steps = i + t .steps; number = t .number }

@@ -12,7 +12,7 @@ use lib.IntN.{ℤ, pos}
 use lib.ListN.{length, getD, set, take, replicate, length-replicate, getD-replicate}
 use Rattle.laws.specs.Cases.{or-left, or-right}
 use Rattle.laws.specs.Choice.{_if_else_}
-use Rattle.laws.specs.Lists.{holdsTwo}
+use Rattle.laws.specs.Lists.{holdsTwo, oneIf}
 use Rattle.laws.specs.Table.{tableOver}
 use Rattle.laws.specs.TableLaws.{over-set, over-at, over-same-at}
 use Rattle.netlist.specs.declared.Channel.{Channel as Wire}
@@ -21,19 +21,19 @@ use Rattle.netlist.specs.Accepted.{Accepted}
 use Rattle.netlist.specs.Readers.{channelAt}
 use Rattle.relay.specs.declared.Link.{Link}
 use Rattle.relay.specs.declared.Station.{Station}
-use Rattle.relay.specs.Link.{token, linkOf, passing}
+use Rattle.relay.specs.Link.{token, linkOf, passing, reading}
 use Rattle.relay.specs.Station.{held, stationOf, placeAfter}
 use Rattle.relay.specs.RowCycle.{noStation}
 use Rattle.pearl.specs.Next.{nextValue}
 use Rattle.shell.specs.declared.Queue.{Queue}
 use Rattle.shell.specs.Queue.{waiting, full, pushed, queueAfter}
 use Rattle.shell.specs.QueueLaws.{push-flag}
-use Rattle.shell.specs.Channel.{blocked, pendingAfter, arriving, stopBelow}
+use Rattle.shell.specs.Channel.{blocked, pendingAfter, arriving, stopBelow, seen}
 use Rattle.engine.specs.declared.cycle.Kinds.{Kinds}
 use Rattle.engine.specs.declared.Node.{Node}
 use Rattle.engine.specs.declared.State.{State}
 use Rattle.engine.specs.State.{noNode, noQueue, nodeAt, markAt, stationAt, queueAt, channelIn}
-use Rattle.engine.specs.Cycle.{stalled, inputAt, blockedAt, fires, nodeAfter, stateAfter, after}
+use Rattle.engine.specs.Cycle.{stalled, inputAt, blockedAt, seenAt, fires, nodeAfter, stateAfter, after}
 use Rattle.engine.specs.Fitting.{Fitting}
 use Rattle.engine.specs.FittingLaws.{nodes-long, pending-long, stations-long, queues-long, queue-count}
 use Rattle.engine.specs.Parts.{kindsBelow, starvedBelow, broughtBelow, blockedBelow, firesBelow, nodesBelow}
@@ -50,6 +50,23 @@ withNode t n node =
 abbrev pub withQueue : State → ℕ → Queue → State
 withQueue t c queue =
     record { cycles = t .cycles; nodes = t .nodes; pending = t .pending; stations = t .stations; queues = set (t .queues) c queue }
+
+-- one more place of a lent array is written
+pub written :
+    {A : Type 0} (f : ℕ → A) (n : ℕ) (old : List A) → n < length old → (l : List A) → l ≡ tableOver f n old → (x : A) → x ≡ f n
+    → set l n x ≡ tableOver f (n + 1) old
+written f n old h l e x q = rw (e, q, add-one) (over-set f n old h)
+
+-- a reading tells no more than the token
+shown : (valid : Bool) (x : ℤ) (stop : Bool)
+    → reading (record { valid = valid; value = x }) stop ≡ reading (linkOf (oneIf valid x)) stop
+unfolding reading linkOf
+shown true x stop = refl
+shown false x stop = refl
+
+reading-token : (link : Link) (stop : Bool) → reading link stop ≡ reading (linkOf (token link)) stop
+unfolding token
+reading-token link stop = shown (link .valid) (link .value) stop
 
 -- a queue whose node does not fire, and to which nothing passes, stays
 stays :
@@ -115,6 +132,13 @@ module _
       ⊎-elim
       (λ d. d .1 ∙ stop-inside img s c j (omega (arith, r, d .0)))
       (λ d. d .1 ∙ stop-last img s c j (omega (arith, r, d .0)))
+
+  -- the channel's letter and value
+  pub seen-read :
+      (link : Link) (stop : Bool) → token link ≡ arriving (channelIn img s c) → stop ≡ stopBelow (depth img c) (channelIn img s c)
+      → reading link stop ≡ seenAt img s c
+  unfolding seenAt seen
+  seen-read link stop p q = reading-token link stop ∙ rw (p, q)
 
   -- ---- the scan: one more channel
   pub starved-read :

@@ -45,12 +45,12 @@ fn fired(node: Node, kind: u8, a: i32, b: i32, c: i32) -> Node
 }
 
 // What is decoded of the channels, and of the nodes.
-pub struct Wires {
-    pub at: [Channel; 96],
+struct Wires {
+    at: [Channel; 96],
 }
 
-pub struct Kinds {
-    pub at: [u8; 64],
+struct Kinds {
+    at: [u8; 64],
 }
 
 // The fields of all channels.
@@ -92,7 +92,7 @@ fn kinds_of(image: &[u8]) -> Kinds
 // The state after the cycles of these words. Each cycle is worked from the state at its start, `old`,
 // and written to `s`. It is one function because a state that is handed on is copied, and that copy
 // takes as long as half of the cycle.
-pub fn cycles(image: &[u8], state: State, words: &[u64]) -> State
+pub(crate) fn cycles(image: &[u8], state: State, words: &[u64]) -> State
     requires { ⌜ Accepted (now image) ⌝ }
     requires { ⌜ Fitting (now image) state ⌝ }
     requires { ⌜ state .cycles + length (now words) ≤ 1000000 ⌝ }
@@ -142,7 +142,13 @@ pub fn cycles(image: &[u8], state: State, words: &[u64]) -> State
         for n in 0..nodes {
             if !stalls(word, n) & !starved[n] & !blocked[n] {
                 let node = old.nodes[n];
-                let next = fired(node, kinds.at[n], brought[3 * n], brought[3 * n + 1], brought[3 * n + 2]);
+                let next = fired(
+                    node,
+                    kinds.at[n],
+                    brought[3 * n],
+                    brought[3 * n + 1],
+                    brought[3 * n + 2],
+                );
                 s.nodes[n] = next;
                 fires[n] = true;
             }

@@ -6,7 +6,8 @@ use relay::Station;
 use shell::Queue;
 ghost use mathlib.Core.Path.{_≡_};
 ghost use Rattle.netlist.specs.Accepted.{Accepted};
-ghost use Rattle.engine.specs.Fresh.{zeros, freshState, freshAnswer};
+ghost use Rattle.engine.specs.Fresh.{zeros, freshState};
+ghost use Rattle.engine.specs.Done.{FreshDone};
 
 impl State {
     // How many nodes and channels a state has places for, and the last cycle count that it may have.
@@ -62,7 +63,7 @@ impl State {
 
     // An image's fresh state: 0 and the state, or one of the judge's numbers and zeros.
     pub fn fresh(image: &[u8]) -> Fresh
-        ensures { λ r. ⌜ r ≡ freshAnswer (now (image .entry)) ⌝ }
+        ensures { λ r. ⌜ FreshDone (now (image .entry)) r ⌝ }
     {
         let refusal = netlist::judge(image);
         if refusal != 0 {

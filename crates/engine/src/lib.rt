@@ -88,13 +88,16 @@ fn number(image: &[u8], state: State, word: u64, letters: usize, values: usize) 
     if refused != 0 {
         return refused;
     }
-    if state.cycles == State::CYCLES {
+    let late = state.cycles == State::CYCLES;
+    let above = sets_above(word, nodes);
+    let short = (letters < channels) | (values < channels);
+    if late {
         return 22;
     }
-    if sets_above(word, nodes) {
+    if above {
         return 12;
     }
-    if (letters < channels) | (values < channels) {
+    if short {
         return 13;
     }
     0
@@ -108,13 +111,15 @@ fn words_taken(nodes: u8, cycles: u32, words: &[u64]) -> Taken
     let room = (State::CYCLES - cycles) as usize;
     let mut i: usize = 0;
     while i < words.len() {
-        if i == room {
+        let over = i == room;
+        let refused = sets_above(words[i], nodes);
+        if over {
             return Taken {
                 steps: i,
                 number: 22,
             };
         }
-        if sets_above(words[i], nodes) {
+        if refused {
             return Taken {
                 steps: i,
                 number: 12,
@@ -132,7 +137,13 @@ fn words_taken(nodes: u8, cycles: u32, words: &[u64]) -> Taken
 // and the C values of the cycle to the first places of `letters` and `values`; or it answers a number
 // and the state that it was handed, and writes nothing. The numbers are the judge's, then 21, 22, 12
 // and 13.
-pub fn step(image: &[u8], state: State, word: u64, letters: &mut [u8], values: &mut [i32]) -> Stepped
+pub fn step(
+    image: &[u8],
+    state: State,
+    word: u64,
+    letters: &mut [u8],
+    values: &mut [i32],
+) -> Stepped
     ensures { λ r. ⌜ StepDone (now (image .entry)) state word (now (letters .entry)) (now (values .entry)) r (now (letters .exit)) (now (values .exit)) ⌝ }
 {
     let number = number(image, state, word, letters.len(), values.len());
@@ -154,20 +165,20 @@ pub fn step(image: &[u8], state: State, word: u64, letters: &mut [u8], values: &
 pub fn run(image: &[u8], state: State, words: &[u64]) -> Ran
     ensures { λ r. ⌜ RunDone (now (image .entry)) state (now (words .entry)) r ⌝ }
 {
-    let refused = refusal(image, state);
-    if refused != 0 {
+    let unfit = refusal(image, state);
+    if unfit != 0 {
         return Ran {
             steps: 0,
-            number: refused,
+            number: unfit,
             state,
         };
     }
     let taken = words_taken(netlist::nodes(image), state.cycles, words);
     let steps = taken.steps;
-    let after = cycle::cycles(image, state, &words[0..steps]);
+    let last = cycle::cycles(image, state, &words[0..steps]);
     Ran {
         steps: steps as u32,
         number: taken.number,
-        state: after,
+        state: last,
     }
 }

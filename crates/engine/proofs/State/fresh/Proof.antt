@@ -21,14 +21,18 @@ zeros-requires c κs = search needs
 returns : tie.Need-returns
 returns c =
     let j = c .before .before in
-    fresh-refused (j .before .before .args .image .now) (j .judge .result) (c .zeros .result) (j .judge .ensures) (c .zeros .ensures)
-    (λ e. omega (arith, j .judge .ensures))
+    record {
+      answered =
+          fresh-refused (j .before .before .args .image .now) (j .judge .result) (c .zeros .result) (j .judge .ensures) (c .zeros .ensures)
+          (λ e. omega (arith, j .judge .ensures));
+    }
 
 started-requires : tie.Need-started-requires
 started-requires c κs = accepted (c .before .before .before .args .image .now) (ok c)
 
 returns-2 : tie.Need-returns-2
-returns-2 c = fresh-made (c .before .before .before .before .args .image .now) (c .started .result) (ok (c .before)) (c .started .ensures)
+returns-2 c =
+    record { answered = fresh-made (c .before .before .before .before .args .image .now) (c .started .result) (ok (c .before)) (c .started .ensures) }
 
 pub fresh-spec : {M : Type 1} → statement M
 fresh-spec = tie.close (tie.spec judge-requires zeros-requires returns started-requires returns-2)

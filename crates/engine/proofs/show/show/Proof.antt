@@ -1,130 +1,170 @@
+-- `engine::show::show` meets its contract. The loop's invariant: the letters and values of the channels below c are written. Assumes nothing.
+use mathlib.Core.List.{List}
+use mathlib.Core.Logic.{inl, inr, ⊎-elim}
+use mathlib.Core.Path.{_≡_, refl, sym, ap, _∙_}
+use Prim.Native.Nat.{ℕ, _≤_, _<_, _-_, _+_}
+use native.Mathlib.Omega.{arith}
+use lib.IntN.{ℤ}
+use lib.ListN.{length, getD}
+use mir.Syntax.{w32}
+use mir.Val.{SFits}
+use mir.Facts.{toZ-ofZ}
+use Rattle.laws.specs.Table.{table, tableOver}
+use Rattle.laws.specs.TableLaws.{length-over}
+use Rattle.netlist.specs.Image.{channels}
+use Rattle.relay.specs.declared.Reading.{Reading}
+use Rattle.relay.specs.Link.{token}
+use Rattle.shell.specs.Channel.{arriving}
+use Rattle.engine.specs.State.{noNode, channelIn}
+use Rattle.engine.specs.Cycle.{seenAt}
+use Rattle.engine.specs.PartsLaws.{wire-within}
+use Rattle.engine.specs.Turns.{written, source-read, full-read, arriving-read, seen-read}
 use Rattle.engine.proofs.show.show.Statement.{statement}
 use Rattle.engine.proofs.show.show.Tie as tie
-use Rattle.engine.proofs.show.show.Reads as reads
-use Rattle.engine.proofs.show.show.Lts as lts
-use Rattle.netlist.proofs.channel_at.Reads as channel-at-reads
-use Rattle.netlist.proofs.channels.Reads as channels-reads
-use Rattle.relay.proofs.Link.reading.Reads as reading-reads
-use Rattle.relay.proofs.Station.link.Reads as link-reads
-use Rattle.shell.proofs.Queue.full.Reads as full-reads
 
 abbrev Inv-loop : tie.InvT-loop
-Inv-loop image letters₀ values₀ state channels c₀ letters values c = ?
+Inv-loop image letters₀ values₀ state channels c₀ letters values c =
+    (c ≤ channels) × (letters ≡ tableOver (λ k. seenAt image state k .letter) c letters₀) × (values ≡ tableOver (λ k. seenAt image state k .value) c values₀)
 
 abbrev μ-loop : tie.MeasureT-loop
-μ-loop image letters₀ values₀ state channels c₀ letters values c = ?
+μ-loop image letters₀ values₀ state channels c₀ letters values c = channels - c
 
--- src/show.rt:23:9
+-- channel c is one of the image's, and its fields are indices
+there : (c : tie.In-loop Inv-loop μ-loop) → c .before .loop .c < channels ((c .before .before .before .before .before) .args .image .now)
+there c = omega (arith, (c .before .before) .channels .ensures)
+
+within :
+    (c : tie.After-channel-at Inv-loop μ-loop)
+    → let w = c .channel-at .result in (c .before .before .loop .c < 96) × (w .from < 64) × (w .to < 64) × (w .port < 3) × (w .stations ≤ 8)
+within c =
+    let s = (c .before .before .before .before .before .before) in
+    let b = wire-within (s .args .image .now) (s .pre .0) (c .before .before .loop .c) (there (c .before)) (c .channel-at .result) (c .channel-at .ensures) in
+    (omega (arith, there (c .before), s .pre .0 .few-channels), b .0, b .1, b .2, b .3)
+
+-- the arrays are as long as they were
+long :
+    (c : tie.At-loop Inv-loop μ-loop)
+    → (length (c .loop .letters) ≡ length ((c .before .before .before .before) .args .letters .now)) × (length (c .loop .values) ≡ length ((c .before .before .before .before) .args .values .now))
+long c =
+    let s = (c .before .before .before .before) in
+    let n = c .before .channels .ensures in
+    let i = c .loop .inv in (
+      ap (λ (l : List ℕ). length l) (i .1) ∙ length-over _ (c .loop .c) (s .args .letters .now) (omega (arith, n, i .0, s .pre .1 .1 .0)),
+      ap (λ (l : List ℤ). length l) (i .2) ∙ length-over _ (c .loop .c) (s .args .values .now) (omega (arith, n, i .0, s .pre .1 .1 .1)),
+    )
+
 channels-requires : tie.Need-channels-requires Inv-loop μ-loop
-channels-requires c κs = ?
+channels-requires c κs = tt
 
--- src/show.rt:24:5
 loop-holds : tie.Need-loop-holds Inv-loop μ-loop
-loop-holds c = ?
+unfolding tableOver table
+loop-holds c = (omega arith, refl, refl)
 
--- src/show.rt:25:13
 channel-at-requires : tie.Need-channel-at-requires Inv-loop μ-loop
-channel-at-requires c κs = ?
+channel-at-requires c κs = tt
 
--- src/show.rt:26:18
 cast-at : tie.Need-cast-at Inv-loop μ-loop
-cast-at c = ?
+cast-at c = omega (arith, within c)
 
--- src/show.rt:27:22
 cast-length : tie.Need-cast-length Inv-loop μ-loop
-cast-length c = ?
+cast-length c = omega (arith, within (c .before))
 
--- src/show.rt:28:32
 cast-node : tie.Need-cast-node Inv-loop μ-loop
-cast-node c = ?
+cast-node c = omega (arith, within (c .before .before))
 
--- src/show.rt:28:20
 mul-node : tie.Need-mul-node Inv-loop μ-loop
-mul-node c = ?
+mul-node c = omega (arith, within (c .before .before))
 
--- src/show.rt:28:20
 element-copy-out-node : tie.Need-element-copy-out-node Inv-loop μ-loop
-element-copy-out-node c = ?
+element-copy-out-node c = omega (arith, within (c .before .before))
 
--- src/show.rt:29:21
 mul-queue : tie.Need-mul-queue Inv-loop μ-loop
-mul-queue c = ?
+mul-queue c = omega (arith, within (c .before .before .before))
 
--- src/show.rt:29:21
 element-copy-out-queue : tie.Need-element-copy-out-queue Inv-loop μ-loop
-element-copy-out-queue c = ?
+element-copy-out-queue c = omega (arith, within (c .before .before .before))
 
--- src/show.rt:30:23
 element-copy-out-pending : tie.Need-element-copy-out-pending Inv-loop μ-loop
-element-copy-out-pending c = ?
+element-copy-out-pending c = omega (arith, within (c .before .before .before .before))
 
--- src/show.rt:36:39
 mul-last : tie.Need-mul-last Inv-loop μ-loop
-mul-last c = ?
+mul-last c = omega (arith, within (c .before .before .before .before .before .before .before))
 
--- src/show.rt:36:49
 sub-last : tie.Need-sub-last Inv-loop μ-loop
-sub-last c = ?
+sub-last c = omega (arith, within (c .before .before .before .before .before .before .before))
 
--- src/show.rt:36:39
 add-last : tie.Need-add-last Inv-loop μ-loop
-add-last c = ?
+add-last c = omega (arith, within (c .before .before .before .before .before .before .before))
 
--- src/show.rt:36:24
 mul-last-2 : tie.Need-mul-last-2 Inv-loop μ-loop
-mul-last-2 c = ?
+mul-last-2 c = omega (arith, within (c .before .before .before .before .before .before .before))
 
--- src/show.rt:36:24
 element-copy-out-last : tie.Need-element-copy-out-last Inv-loop μ-loop
-element-copy-out-last c = ?
+element-copy-out-last c = omega (arith, within (c .before .before .before .before .before .before .before))
 
--- src/show.rt:37:13
 link-requires : tie.Need-link-requires Inv-loop μ-loop
-link-requires c κs = ?
+link-requires c κs = tt
 
--- src/show.rt:39:33
 full-requires : tie.Need-full-requires Inv-loop μ-loop
-full-requires c κs = ?
+full-requires c κs = tt
 
--- src/show.rt:39:13
 reading-requires : tie.Need-reading-requires Inv-loop μ-loop
-reading-requires c κs = ?
+reading-requires c κs = tt
 
--- src/show.rt:42:9
 slice-write-letters : tie.Need-slice-write-letters Inv-loop μ-loop
-slice-write-letters c = ?
+slice-write-letters c = omega (arith, long (c .before .before .before .before .before .before .before .before .before .before .before .before), there (c .before .before .before .before .before .before .before .before .before .before .before), (c .before .before .before .before .before .before .before .before .before .before .before .before .before .before .before .before) .pre .1 .1)
 
--- src/show.rt:43:9
 mul-value : tie.Need-mul-value Inv-loop μ-loop
-mul-value c = ?
+mul-value c = omega (arith, within (c .before .before .before .before .before .before .before .before .before .before))
 
--- src/show.rt:43:9
 slice-set-from-value : tie.Need-slice-set-from-value Inv-loop μ-loop
-slice-set-from-value c = ?
+slice-set-from-value c = omega (arith, long (c .before .before .before .before .before .before .before .before .before .before .before .before), there (c .before .before .before .before .before .before .before .before .before .before .before), (c .before .before .before .before .before .before .before .before .before .before .before .before .before .before .before .before) .pre .1 .1)
 
--- src/show.rt:24:9
 add-c : tie.Need-add-c Inv-loop μ-loop
-add-c c = ?
+add-c c = omega (arith, within (c .before .before .before .before .before .before .before .before .before .before))
 
--- src/show.rt:24:5
 loop-less : tie.Need-loop-less Inv-loop μ-loop
-loop-less c = ?
+loop-less c = omega arith
 
--- src/show.rt:24:5
 loop-again : tie.Need-loop-again Inv-loop μ-loop
-loop-again c = ?
+loop-again c = let s = (c .before .before .before .before .before .before .before .before .before .before .before .before .before .before .before .before) in
+    let a = s .args in
+    let fit = s .pre .1 .0 in
+    let l = (c .before .before .before .before .before .before .before .before .before .before .before .before) .loop in
+    let h = there (c .before .before .before .before .before .before .before .before .before .before .before) in
+    let w = (c .before .before .before .before .before .before .before .before .before .before) .channel-at in
+    let f : SFits w32 (getD (a .t2 .nodes) (w .result .from) noNode .value) = record { sfits = (c .before .before .before .before) .struct-told .given .0 .1 } in
+    let g : SFits w32 ((c .before) .reading .result .value) = record { sfits = c .struct-told2 .given .1 .0 .1 } in
+    let join = (c .before .before .before) .if1 in
+    let link : token (join .link) ≡ arriving (channelIn (a .image .now) (a .t2) (l .c)) =
+    arriving-read (a .image .now) (s .pre .0) (a .t2) fit (l .c) h (w .result) (w .ensures) _ (join .link)
+    (source-read (a .image .now) (s .pre .0) (a .t2) fit (l .c) h (w .result) (w .ensures) _ (toZ-ofZ f))
+    (⊎-elim (λ d. inl (omega (arith, d .0 .taken), d .3 ∙ d .2 .ensures)) (λ d. inr (omega (arith, d .0 .left), d .1)) (join .came)) in
+    let seen : (c .before) .reading .result ≡ seenAt (a .image .now) (a .t2) (l .c) =
+    (c .before) .reading .ensures
+    ∙ seen-read (a .image .now) (s .pre .0) (a .t2) fit (l .c) h (w .result) (w .ensures) (join .link) _ link
+    ((c .before .before) .full .ensures ∙ full-read (a .image .now) (s .pre .0) (a .t2) fit (l .c) h (w .result) (w .ensures)) in
+    let n : l .c < length (a .letters .now) = omega (arith, h, s .pre .1 .1) in
+    let m : l .c < length (a .values .now) = omega (arith, h, s .pre .1 .1) in
+    let k : l .c + 1 ≤ (c .before .before .before .before .before .before .before .before .before .before .before .before .before) .channels .result = omega (arith, h, (c .before .before .before .before .before .before .before .before .before .before .before .before .before) .channels .ensures) in (
+      k,
+      written (λ k. seenAt (a .image .now) (a .t2) k .letter) (l .c) (a .letters .now) n (l .letters) (l .inv .1) _ (ap (λ (x : Reading). x .letter) seen),
+      written (λ k. seenAt (a .image .now) (a .t2) k .value) (l .c) (a .values .now) m (l .values) (l .inv .2) _ (toZ-ofZ g ∙ ap (λ (x : Reading). x .value) seen),
+    )
 
--- src/show.rt:16:1
 same-length : tie.Need-same-length Inv-loop μ-loop
-same-length c = ?
+same-length c = long (c .before) .0
 
--- src/show.rt:16:1
 same-length-2 : tie.Need-same-length-2 Inv-loop μ-loop
-same-length-2 c = ?
+same-length-2 c = long (c .before) .1
 
--- src/show.rt:16:1
 returns : tie.Need-returns Inv-loop μ-loop
-returns c = ?
+returns c = let l = (c .before) .loop in
+    let a = (c .before .before .before .before .before) .args in
+    let e : l .c ≡ channels (a .image .now) = omega (arith, (c .before .before) .channels .ensures) in (
+      l .inv .1 ∙ ap (λ (n : ℕ). tableOver (λ k. seenAt (a .image .now) (a .t2) k .letter) n (a .letters .now)) e,
+      l .inv .2 ∙ ap (λ (n : ℕ). tableOver (λ k. seenAt (a .image .now) (a .t2) k .value) n (a .values .now)) e,
+    )
 
 pub show-spec : {M : Type 1} → statement M
 show-spec =
