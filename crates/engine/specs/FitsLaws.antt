@@ -14,20 +14,19 @@ use Rattle.laws.specs.Cases.{lt-or-ge}
 use Rattle.laws.specs.Choice.{_if_else_}
 use Rattle.laws.specs.ChoiceLaws.{one-few}
 use Rattle.laws.specs.Lists.{holds, oneIf, padded, Stored}
-use Rattle.laws.specs.ListsLaws.{stored-count}
 use Rattle.laws.specs.Table.{table}
 use Rattle.laws.specs.TableLaws.{padded-past, padded-own}
 use Rattle.netlist.specs.Image.{nodes, channels, from, to, stations, depth}
 use Rattle.netlist.specs.Accepted.{Accepted}
 use Rattle.relay.specs.declared.Station.{Station}
 use Rattle.relay.specs.Station.{held, stationOf}
-use Rattle.relay.specs.StationLaws.{station-own, station-stored}
+use Rattle.relay.specs.StationLaws.{held-count, station-own, station-stored}
 use Rattle.relay.specs.RowCycle.{noStation}
 use Rattle.relay.specs.Row.{contents}
 use Rattle.relay.specs.RowLaws.{contents-count}
 use Rattle.shell.specs.declared.Queue.{Queue}
 use Rattle.shell.specs.Queue.{waiting, queueOf}
-use Rattle.shell.specs.QueueLaws.{queue-own, queue-stored}
+use Rattle.shell.specs.QueueLaws.{waiting-count, queue-own, queue-stored}
 use Rattle.shell.specs.Channel.{tokens}
 use Rattle.engine.specs.declared.Node.{Node}
 use Rattle.engine.specs.declared.State.{State}
@@ -53,14 +52,6 @@ StationStored st = Stored 2 (pos 0) (st .tokens) (st .count)
 
 abbrev QueueStored : Queue → Type 0
 QueueStored q = Stored 8 (pos 0) (q .tokens) (q .count)
-
-held-count : (st : Station) → StationStored st → length (held st) ≡ st .count
-unfolding held
-held-count st h = stored-count 2 (pos 0) (st .tokens) (st .count) h
-
-waiting-count : (q : Queue) → QueueStored q → length (waiting q) ≡ q .count
-unfolding waiting
-waiting-count q h = stored-count 8 (pos 0) (q .tokens) (q .count) h
 
 -- a mark of 0 or 1 is what it shows
 mark-count : (m : ℕ) (v : ℤ) → m ≤ 1 → (length (oneIf (eqb m 1) v) ≡ m) × (m ≡ (1 if holds (oneIf (eqb m 1) v) else 0))

@@ -3,25 +3,25 @@
 pub mod State
 pub mod StateLaws
 pub mod Fresh
+pub mod FreshLaws
 pub mod Cycle
 pub mod CycleLaws
 pub mod Fits
 pub mod Answer
 pub mod Done
+pub mod Examples
 -- a state that fits, as facts; tokens counted
 pub mod Fitting
+pub mod FittingLaws
 pub mod Places
 pub mod FitsLaws
-pub mod FittingLaws
 pub mod Counters
 pub mod CountersLaws
 -- what the code's loops hold
 pub mod Parts
 pub mod PartsLaws
 pub mod Turns
-pub mod FreshLaws
 pub mod FitsPasses
 pub mod FitsPassesLaws
 pub mod Taken
 pub mod AnswerLaws
-pub mod Examples

@@ -12,7 +12,7 @@ use lib.IntN.{ℤ, pos}
 use lib.ListN.{length, getD, set, take, replicate, length-replicate, getD-replicate}
 use Rattle.laws.specs.Cases.{or-left, or-right}
 use Rattle.laws.specs.Choice.{_if_else_}
-use Rattle.laws.specs.Lists.{holdsTwo, oneIf}
+use Rattle.laws.specs.Lists.{holdsTwo}
 use Rattle.laws.specs.Table.{tableOver}
 use Rattle.laws.specs.TableLaws.{over-set, over-at, over-same-at}
 use Rattle.netlist.specs.declared.Channel.{Channel as Wire}
@@ -22,12 +22,13 @@ use Rattle.netlist.specs.Readers.{channelAt}
 use Rattle.relay.specs.declared.Link.{Link}
 use Rattle.relay.specs.declared.Station.{Station}
 use Rattle.relay.specs.Link.{token, linkOf, passing, reading}
+use Rattle.relay.specs.LinkLaws.{reading-token}
 use Rattle.relay.specs.Station.{held, stationOf, placeAfter}
 use Rattle.relay.specs.RowCycle.{noStation}
 use Rattle.pearl.specs.Next.{nextValue}
 use Rattle.shell.specs.declared.Queue.{Queue}
-use Rattle.shell.specs.Queue.{waiting, full, pushed, queueAfter}
-use Rattle.shell.specs.QueueLaws.{push-flag}
+use Rattle.shell.specs.Queue.{waiting, full, queueAfter}
+use Rattle.shell.specs.QueueLaws.{after-idle}
 use Rattle.shell.specs.Channel.{blocked, pendingAfter, arriving, stopBelow, seen}
 use Rattle.engine.specs.declared.cycle.Kinds.{Kinds}
 use Rattle.engine.specs.declared.Node.{Node}
@@ -56,24 +57,6 @@ pub written :
     {A : Type 0} (f : ℕ → A) (n : ℕ) (old : List A) → n < length old → (l : List A) → l ≡ tableOver f n old → (x : A) → x ≡ f n
     → set l n x ≡ tableOver f (n + 1) old
 written f n old h l e x q = rw (e, q, add-one) (over-set f n old h)
-
--- a reading tells no more than the token
-shown : (valid : Bool) (x : ℤ) (stop : Bool)
-    → reading (record { valid = valid; value = x }) stop ≡ reading (linkOf (oneIf valid x)) stop
-unfolding reading linkOf
-shown true x stop = refl
-shown false x stop = refl
-
-reading-token : (link : Link) (stop : Bool) → reading link stop ≡ reading (linkOf (token link)) stop
-unfolding token
-reading-token link stop = shown (link .valid) (link .value) stop
-
--- a queue whose node does not fire, and to which nothing passes, stays
-stays :
-    (q : Queue) (link : Link) (stop fired : Bool) → fired ≡ false → link .valid && not stop ≡ false
-    → queueAfter q (passing (token link) stop) fired ≡ q
-unfolding queueAfter pushed
-stays q link stop fired e z = rw (e, push-flag q link stop, z)
 
 -- ---- channel c, as it is read: `wire` has its fields
 module _
@@ -227,7 +210,7 @@ module _
         → fired ≡ fires img w s (to img c) → fired || (link .valid && not stop) ≡ false → queueNext img w s c ≡ getD (s .queues) c noQueue
     queue-idle link stop fired p q r z =
         sym (queue-read link stop fired p q r)
-        ∙ stays (getD (s .queues) c noQueue) link stop fired (or-left fired (link .valid && not stop) z) (or-right fired (link .valid && not stop) z)
+        ∙ after-idle (getD (s .queues) c noQueue) link stop fired (or-left fired (link .valid && not stop) z) (or-right fired (link .valid && not stop) z)
 
     -- the channel is done
     pub channel-turn :

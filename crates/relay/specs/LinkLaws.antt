@@ -82,7 +82,17 @@ pub passing-holds : (link : Link) (stop : Bool) → holds (passing (token link) 
 unfolding token
 passing-holds link stop = passing-flag (link .valid) stop (link .value)
 
--- the value of a letter T is what passes
+-- a reading tells no more than the token,
+reading-flag : (valid stop : Bool) (x : ℤ) → reading (record { valid = valid; value = x }) stop ≡ reading (linkOf (oneIf valid x)) stop
+unfolding reading linkOf
+reading-flag true stop x = refl
+reading-flag false stop x = refl
+
+pub reading-token : (link : Link) (stop : Bool) → reading link stop ≡ reading (linkOf (token link)) stop
+unfolding token
+reading-token link stop = reading-flag (link .valid) stop (link .value)
+
+-- and the value of a letter T is what passes
 pub letter-passing :
     (link : List ℤ) (stop : Bool) → length link ≤ 1
     → let r = reading (linkOf link) stop in oneIf (eqb (r .letter) 84) (r .value) ≡ passing link stop

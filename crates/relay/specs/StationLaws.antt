@@ -39,14 +39,18 @@ place-few link (x ∷ y ∷ []) true l h = omega arith
 place-few link (x ∷ y ∷ []) false l h = omega arith
 place-few link (x ∷ y ∷ z ∷ place) stop l h = absurd (not-suc-le-zero {n = 0} (omega arith))
 
--- a record whose unused places are 0 is what its tokens write, and the other way round
+-- a record whose unused places are 0 holds as many as it counts, and is what its tokens write
+pub held-count : (s : Station) → Stored 2 (pos 0) (s .tokens) (s .count) → length (held s) ≡ s .count
+unfolding held
+held-count s h = stored-count 2 (pos 0) (s .tokens) (s .count) h
+
 pub station-own : (s : Station) → Stored 2 (pos 0) (s .tokens) (s .count) → s ≡ stationOf (held s)
 unfolding held stationOf
 station-own s h =
     ap₂ {C = Station} (λ (t : List ℤ) (n : ℕ). record { tokens = t; count = n })
-    (stored-own 2 (pos 0) (s .tokens) (s .count) h)
-    (sym (stored-count 2 (pos 0) (s .tokens) (s .count) h))
+    (stored-own 2 (pos 0) (s .tokens) (s .count) h) (sym (held-count s h))
 
+-- and the other way round
 pub station-stored : (xs : List ℤ) → length xs ≤ 2 → Stored 2 (pos 0) (stationOf xs .tokens) (stationOf xs .count)
 unfolding stationOf
 station-stored xs h = stored-padded 2 (pos 0) xs h

@@ -25,14 +25,18 @@ pub waiting-of : (xs : List ℤ) → waiting (queueOf xs) ≡ xs
 unfolding waiting queueOf
 waiting-of xs = take-padded 8 (pos 0) xs
 
--- a record whose unused places are 0 is what its tokens write, and the other way round: after a cycle too, by `after-of`
+-- a record whose unused places are 0 holds as many as it counts, and is what its tokens write
+pub waiting-count : (q : Queue) → Stored 8 (pos 0) (q .tokens) (q .count) → length (waiting q) ≡ q .count
+unfolding waiting
+waiting-count q h = stored-count 8 (pos 0) (q .tokens) (q .count) h
+
 pub queue-own : (q : Queue) → Stored 8 (pos 0) (q .tokens) (q .count) → q ≡ queueOf (waiting q)
 unfolding waiting queueOf
 queue-own q h =
     ap₂ {C = Queue} (λ (t : List ℤ) (n : ℕ). record { tokens = t; count = n })
-    (stored-own 8 (pos 0) (q .tokens) (q .count) h)
-    (sym (stored-count 8 (pos 0) (q .tokens) (q .count) h))
+    (stored-own 8 (pos 0) (q .tokens) (q .count) h) (sym (waiting-count q h))
 
+-- and the other way round: after a cycle too, by `after-of`
 pub queue-stored : (xs : List ℤ) → length xs ≤ 8 → Stored 8 (pos 0) (queueOf xs .tokens) (queueOf xs .count)
 unfolding queueOf
 queue-stored xs h = stored-padded 8 (pos 0) xs h
@@ -114,3 +118,10 @@ pub push-flag :
     (record { tokens = set (q .tokens) (q .count) (link .value); count = q .count + 1 } if (link .valid && not stop) && ltb (q .count) 8 else q)
 unfolding token
 push-flag q link stop = pushed-flag q (link .valid) stop (link .value)
+
+-- a queue whose node does not fire, and to which nothing passes, stays
+pub after-idle :
+    (q : Queue) (link : Link) (stop fires : Bool) → fires ≡ false → link .valid && not stop ≡ false
+    → queueAfter q (passing (token link) stop) fires ≡ q
+unfolding queueAfter pushed
+after-idle q link stop fires e z = rw (e, push-flag q link stop, z)
