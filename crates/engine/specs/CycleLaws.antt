@@ -89,7 +89,7 @@ module _ (img : List ℕ) (a : Accepted img) (w : ℕ) (s : State) where
   firings-next n h = ap (λ (x : Node). x .firings) (node-next n h) ∙ firings-if (fires img w s n) _ (nodeAt s n)
 
 -- ---- firing
--- what it asks of a node is all that it asks
+-- a node fires exactly if it is not stalled, each of its inputs is ready, and none of its tokens is blocked
 module _ (img : List ℕ) (w : ℕ) (s : State) (n : ℕ) where
   pub fires-iff : (fires img w s n ≡ true) ↔
       (((stalled w n ≡ false) × ((c : ℕ) → c < channels img → to img c ≡ n → inputAt img s c .valid ≡ true)) ×

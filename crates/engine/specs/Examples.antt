@@ -1,5 +1,4 @@
--- The definitions, computed: figure 4 of source document 000, whole; a ring with stations through twenty cycles with stalls; states that fit and
--- states that do not.
+-- The definitions, computed: figure 4 of source document 000, whole.
 use mathlib.Core.List.{List, [], _∷_}
 use mathlib.Core.Path.{_≡_, refl}
 use Prim.Native.Nat.{ℕ}

@@ -59,9 +59,8 @@ pub written :
 written f n old h l e x q = rw (e, q, add-one) (over-set f n old h)
 
 -- ---- channel c, as it is read: `wire` has its fields
-module _
-    (img : List ℕ) (a : Accepted img) (s : State) (fit : Fitting img s) (c : ℕ) (h : c < channels img) (wire : Wire) (e : wire ≡ channelAt img c)
-    where
+module _ (img : List ℕ) (a : Accepted img) (s : State) (fit : Fitting img s) (c : ℕ) (h : c < channels img)
+    (wire : Wire) (e : wire ≡ channelAt img c) where
   -- link 0
   pub source-read :
       (v : ℤ) → v ≡ getD (s .nodes) (wire .from) noNode .value

@@ -28,7 +28,7 @@ module _ {A : Type 0} where
   length-dropIf true [] = omega arith
   length-dropIf true (x ∷ xs) = omega arith
 
-  -- and it is one
+  -- what is dropped from a list that has an element is one
   pub length-dropped : (b : Bool) (xs : List A) → (b ≡ true → holds xs ≡ true) → length (dropIf b xs) + (1 if b else 0) ≡ length xs
   length-dropped false xs h = omega arith
   length-dropped true [] h = absurd (false≢true (h refl))

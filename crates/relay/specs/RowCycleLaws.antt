@@ -27,7 +27,7 @@ unfolding places held
 place-at row n i h = List·getD-map held (take n (row .stations)) i noStation ∙ ap held (getD-take n (row .stations) i noStation h)
 
 -- a link is that of the whole row, if it is one of the first n
-pub link-places : (link : List ℤ) (row : Row) (n j : ℕ) → j ≤ n → n ≤ 8 → linkAt link (places row 8) j ≡ linkAt link (places row n) j
+link-places : (link : List ℤ) (row : Row) (n j : ℕ) → j ≤ n → n ≤ 8 → linkAt link (places row 8) j ≡ linkAt link (places row n) j
 unfolding linkAt
 link-places link row n zero h k = refl
 link-places link row n (suc j) h k = ap (λ (p : List ℤ). take 1 p) (place-at row 8 j (omega arith) ∙ sym (place-at row n j h))

@@ -9,8 +9,8 @@ use lib.ListN.{length, getD, set, drop, List·getD-eq-default}
 use Rattle.laws.specs.Below.{pickBelow}
 use Rattle.laws.specs.BelowLaws.{pick-one, pick-map}
 use Rattle.laws.specs.ListsLaws.{getD-padded}
-use Rattle.laws.specs.Table.{table, tableOver}
-use Rattle.laws.specs.TableLaws.{getD-any, table-at, table-same, table-own, over-padded, over-same, padded-table}
+use Rattle.laws.specs.Table.{tableOver}
+use Rattle.laws.specs.TableLaws.{getD-any, table-same, table-own, over-padded, over-same, padded-table, padded-at}
 use Rattle.netlist.specs.Image.{nodes, channels, kind, parameter, from, feeds}
 use Rattle.netlist.specs.declared.Core.{Core}
 use Rattle.netlist.specs.Readers.{coreAt}
@@ -63,7 +63,7 @@ module _ (img : List ℕ) (a : Accepted img) where
 
   kind-at : (n : ℕ) → n < nodes img → getD (cores .kinds) n 0 ≡ kind img n
   unfolding coresBelow
-  kind-at n h = getD-padded 64 0 (table (kind img) (nodes img)) n ∙ table-at (kind img) (nodes img) n 0 h
+  kind-at n h = padded-at (kind img) (nodes img) 64 n 0 0 h
 
   value-at : (t n : ℕ) → getD (valuesAt img t .at) n (pos 0) ≡ getD (strictCycle img t) n (pos 0)
   unfolding valuesAt
