@@ -2,15 +2,14 @@
 -- are the stations, place r + 1 is the queue. One cycle is a least of three on these numbers (`CountersLaws`), so what is said of time looks at no
 -- station again.
 use mathlib.Core.Bool.{false}
-use mathlib.Core.List.{List, []}
+use mathlib.Core.List.{List}
 use mathlib.Core.Path.{_≡_}
-use Prim.Native.Nat.{ℕ, zero, suc, _+_, _<_, _≤_}
+use Prim.Native.Nat.{ℕ, zero, suc, _+_, _<_}
 use lib.Dec.{ltb}
-use lib.ListN.{length, getD, drop}
+use lib.ListN.{length, drop}
 use Rattle.laws.specs.Choice.{_if_else_}
 use Rattle.netlist.specs.Image.{channels, from, to, stations, depth}
 use Rattle.relay.specs.Row.{contents}
-use Rattle.shell.specs.Channel.{tokens}
 use Rattle.engine.specs.declared.State.{State}
 use Rattle.engine.specs.State.{firingsAt, channelIn}
 use Rattle.engine.specs.Cycle.{stalled}
@@ -25,12 +24,6 @@ module _ (img : List ℕ) (s : State) where
   -- as many as can have entered place j + 1: two more than have left the station, or the depth more than were taken from the queue
   unfoldable pub limit : ℕ → ℕ → ℕ
   limit c j = entered c (suc (suc j)) + 2 if ltb j (stations img c) else firingsAt s (to img c) + depth img c
-
-  -- what time needs of number 21: no place holds more than it can, and the tokens of a channel are those that were made and not yet taken
-  pub record Steady : Type 0 where
-    pub few : (c : ℕ) → c < channels img → (j : ℕ) → length (getD (channelIn img s c .row) j []) ≤ 2
-    pub within : (c : ℕ) → c < channels img → length (channelIn img s c .queue) ≤ depth img c
-    pub balance : (c : ℕ) → c < channels img → firingsAt s (to img c) + length (tokens (channelIn img s c)) ≡ suc (firingsAt s (from img c))
 
   -- node n can fire: it is not stalled, its next token has come up to each of its queues, and on each of its channels there is room for one more
   pub record Enabled (word n : ℕ) : Type 0 where

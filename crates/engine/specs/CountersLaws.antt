@@ -27,7 +27,8 @@ use Rattle.engine.specs.State.{firingsAt, channelIn}
 use Rattle.engine.specs.StateLaws.{length-row, source-few}
 use Rattle.engine.specs.Cycle.{inputAt, blockedAt, fires, channelNext, stateAfter}
 use Rattle.engine.specs.CycleLaws.{channel-next, firings-next, fires-iff, queue-next}
-use Rattle.engine.specs.Counters.{entered, limit, Steady, Enabled}
+use Rattle.engine.specs.Fitting.{Steady}
+use Rattle.engine.specs.Counters.{entered, limit, Enabled}
 
 -- ---- the counts of one state
 module _ (img : List ℕ) (s : State) (c : ℕ) where

@@ -108,7 +108,7 @@ module _ (img : List ℕ) (a : Accepted img) (s : State) (f : Fitting img s) whe
   station-fits : (c : ℕ) → c < 96 → (j : ℕ) → j < 8 → StationStored (stationAt s c j)
   station-fits c b j l =
       ⊎-elim
-      (λ (h : c < channels img). rw (station-written img s f c h j l) (station-stored (getD (channelIn img s c .row) j []) (f .few c h j)))
+      (λ (h : c < channels img). rw (station-written img s f c h j l) (station-stored (getD (channelIn img s c .row) j []) (f .steady .few c h j)))
       (λ (h : channels img ≤ c). rw (station-past c b h j l) (station-stored [] (omega arith)))
       (lt-or-ge c (channels img))
 
@@ -128,7 +128,7 @@ module _ (img : List ℕ) (a : Accepted img) (s : State) (f : Fitting img s) whe
       ⊎-elim
       (λ (h : c < channels img).
       rw (queue-written img s f c h)
-      (queue-stored (channelIn img s c .queue) (omega (arith, f .within c h, a .queues c h))))
+      (queue-stored (channelIn img s c .queue) (omega (arith, f .steady .within c h, a .queues c h))))
       (λ (h : channels img ≤ c). rw (queue-none c b h) (queue-stored [] (omega arith)))
       (lt-or-ge c (channels img))
 
@@ -137,7 +137,7 @@ module _ (img : List ℕ) (a : Accepted img) (s : State) (f : Fitting img s) whe
   queue-clear c b = (λ i h. queue-fits c b .rest i, λ h. ap (λ (q : Queue). q .count) (queue-none c b h))
 
   queue-within : (c : ℕ) → c < channels img → queueAt s c .count ≤ depth img c
-  queue-within c h = omega (arith, queue-count img s f c h, f .within c h)
+  queue-within c h = omega (arith, queue-count img s f c h, f .steady .within c h)
 
   -- a state that fits passes the test,
   pub fits-fitting : fits img s ≡ true
@@ -155,7 +155,7 @@ module _ (img : List ℕ) (a : Accepted img) (s : State) (f : Fitting img s) whe
         mark = mark-none;
         station = station-clear;
         queue = queue-clear;
-        balance = λ c h. omega (arith, tokens-count img s c (mark-within c h) (row c h) (queue-fits c (below c h)), f .balance c h);
+        balance = λ c h. omega (arith, tokens-count img s c (mark-within c h) (row c h) (queue-fits c (below c h)), f .steady .balance c h);
       }
 
 -- ---- from the test to the facts: what stands at a place is what its own tokens write
@@ -282,7 +282,5 @@ fitting img a s shape e =
       cycled = p .cycled;
       fired = p .fired;
       written = all-written img a s shape p;
-      few = few-held img a s shape p;
-      within = within-depth img a s shape p;
-      balance = balance-held img a s shape p;
+      steady = record { few = few-held img a s shape p; within = within-depth img a s shape p; balance = balance-held img a s shape p };
     }

@@ -19,13 +19,17 @@ pub record Shaped (s : State) : Type 0 where
   pub station : (i : ℕ) → i < 768 → length (getD (s .stations) i noStation .tokens) ≡ 2
   pub queue : (c : ℕ) → c < 96 → length (getD (s .queues) c noQueue .tokens) ≡ 8
 
-pub record Fitting (img : List ℕ) (s : State) : Type 0 where
-  pub cycled : s .cycles ≤ 1000000
-  pub fired : (n : ℕ) → n < nodes img → firingsAt s n ≤ s .cycles
-  -- pending marks are 0 or 1, and every unused place is 0: the state is what its own nodes and channels write
-  pub written : s ≡ stateOf img (s .cycles) (nodeAt s) (channelIn img s)
+-- what every cycle keeps, whatever the cycle count. What is said of time needs no more of a state
+pub record Steady (img : List ℕ) (s : State) : Type 0 where
   -- station and queue counts are within their depths
   pub few : (c : ℕ) → c < channels img → (j : ℕ) → length (getD (channelIn img s c .row) j []) ≤ 2
   pub within : (c : ℕ) → c < channels img → length (channelIn img s c .queue) ≤ depth img c
   -- the tokens of a channel are those that were made and not yet taken
   pub balance : (c : ℕ) → c < channels img → firingsAt s (to img c) + length (tokens (channelIn img s c)) ≡ suc (firingsAt s (from img c))
+
+pub record Fitting (img : List ℕ) (s : State) : Type 0 where
+  pub cycled : s .cycles ≤ 1000000
+  pub fired : (n : ℕ) → n < nodes img → firingsAt s n ≤ s .cycles
+  -- pending marks are 0 or 1, and every unused place is 0: the state is what its own nodes and channels write
+  pub written : s ≡ stateOf img (s .cycles) (nodeAt s) (channelIn img s)
+  pub steady : Steady img s

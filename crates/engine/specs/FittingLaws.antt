@@ -25,8 +25,7 @@ use Rattle.engine.specs.Fresh.{freshState}
 use Rattle.engine.specs.FreshLaws.{fresh-firings, fresh-channel, fresh-tokens}
 use Rattle.engine.specs.Cycle.{fires, nodeAfter, channelNext, stateAfter}
 use Rattle.engine.specs.CycleLaws.{channel-next, firings-next, fires-holds, tokens-next}
-use Rattle.engine.specs.Fitting.{Fitting}
-use Rattle.engine.specs.Counters.{Steady}
+use Rattle.engine.specs.Fitting.{Steady, Fitting}
 
 -- ---- what stands in it
 -- its arrays have the declared lengths
@@ -73,18 +72,17 @@ fitting-fresh img a =
       cycled = omega arith;
       fired = λ n h. omega (arith, fresh-firings img n h);
       written = written-of img 0 _ _ (fresh-channel img a);
-      few = λ c h j. rw (fresh-channel img a c h, replicate-rest {A = List ℤ} (stations img c) j []) (omega arith);
-      within = λ c h. rw (fresh-channel img a c h) (omega arith);
-      balance =
-          λ c h.
-          rw (fresh-tokens img a c h)
-          (omega (arith, fresh-firings img (to img c) (a .wires c h .1), fresh-firings img (from img c) (a .wires c h .0)));
+      steady =
+          record {
+            few = λ c h j. rw (fresh-channel img a c h, replicate-rest {A = List ℤ} (stations img c) j []) (omega arith);
+            within = λ c h. rw (fresh-channel img a c h) (omega arith);
+            balance = λ c h.
+                rw (fresh-tokens img a c h)
+                (omega (arith, fresh-firings img (to img c) (a .wires c h .1), fresh-firings img (from img c) (a .wires c h .0)));
+          };
     }
 
 -- ---- a cycle
-pub fitting-steady : (img : List ℕ) (s : State) → Fitting img s → Steady img s
-fitting-steady img s ok = record { few = ok .few; within = ok .within; balance = ok .balance }
-
 module _ (img : List ℕ) (a : Accepted img) (w : ℕ) (s : State) where
   -- every cycle keeps what time needs, whatever the cycle count
   module _ (ok : Steady img s) (c : ℕ) (h : c < channels img) where
@@ -126,12 +124,9 @@ module _ (img : List ℕ) (a : Accepted img) (w : ℕ) (s : State) where
   pub fitting-next : Fitting img s → s .cycles < 1000000 → Fitting img (stateAfter img w s)
   unfolding stateAfter stateOf
   fitting-next ok l =
-      let next = steady-next (fitting-steady img s ok) in
       record {
         cycled = l;
         fired = λ n h. omega (arith, firings-next img a w s n h, one-few (fires img w s n), ok .fired n h);
         written = written-of img (suc (s .cycles)) (nodeAfter img w s) (channelNext img w s) (channel-next img a w s);
-        few = next .few;
-        within = next .within;
-        balance = next .balance;
+        steady = steady-next (ok .steady);
       }

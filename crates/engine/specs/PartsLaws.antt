@@ -111,7 +111,7 @@ module _ (img : List ℕ) (s : State) (fit : Fitting img s) (c : ℕ) (h : c < c
   queue-turn link stop fired e f g =
       let ch = channelIn img s c in
       let one = arriving-few img s c in
-      let few = arrived-few (depth img c) (ch .queue) (arriving ch) (fit .within c h) one in
+      let few = arrived-few (depth img c) (ch .queue) (arriving ch) (fit .steady .within c h) one in
       rw (queue-written img s fit c h, e, f, g)
       (after-of (ch .queue) (passing (arriving ch) (full (depth img c) (length (ch .queue)))) (fires img w s (to img c))
       (passing-few (arriving ch) (full (depth img c) (length (ch .queue))) one) (omega (arith, few, a .queues c h)))

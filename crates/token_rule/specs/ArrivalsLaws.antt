@@ -26,8 +26,8 @@ use Rattle.engine.specs.Fresh.{freshState}
 use Rattle.engine.specs.FreshLaws.{fresh-firings, fresh-channel}
 use Rattle.engine.specs.Cycle.{seenAt, stateAfter}
 use Rattle.engine.specs.CycleLaws.{firings-next, queue-next}
-use Rattle.engine.specs.Counters.{Steady}
-use Rattle.engine.specs.FittingLaws.{fitting-fresh, fitting-steady, steady-next}
+use Rattle.engine.specs.Fitting.{Steady}
+use Rattle.engine.specs.FittingLaws.{fitting-fresh, steady-next}
 use Rattle.token_rule.specs.Safety.{Sound}
 use Rattle.token_rule.specs.SafetyLaws.{sound-fresh, sound-next}
 use Rattle.token_rule.specs.Cycles.{arrivals}
@@ -84,4 +84,4 @@ module _ (img : List ℕ) (a : Accepted img) (c : ℕ) (h : c < channels img) wh
       let none : arrivedSoFar img (freshState img) c ≡ 0 =
       rw (fresh-firings img (to img c) (a .wires c h .1), ap (λ (x : Channel). x .queue) (fresh-channel img a c h)) in
       stretch-table (stream img c) (arrivals img (freshState img) words c)
-      (rw none at (arrivals-next words (freshState img) (fitting-steady img (freshState img) (fitting-fresh img a)) (sound-fresh img a)))
+      (rw none at (arrivals-next words (freshState img) (fitting-fresh img a .steady) (sound-fresh img a)))

@@ -10,8 +10,7 @@ use Rattle.engine.specs.declared.State.{State}
 use Rattle.engine.specs.State.{firingsAt}
 use Rattle.engine.specs.Cycle.{stateAfter, after}
 use Rattle.engine.specs.CycleLaws.{cycles-next, firings-next}
-use Rattle.engine.specs.Fitting.{Fitting}
-use Rattle.engine.specs.Counters.{Steady}
+use Rattle.engine.specs.Fitting.{Steady, Fitting}
 use Rattle.engine.specs.FittingLaws.{steady-next, fitting-next}
 use Rattle.token_rule.specs.Safety.{Sound}
 use Rattle.token_rule.specs.SafetyLaws.{sound-next}

@@ -13,7 +13,8 @@ use Rattle.netlist.specs.Image.{nodes, channels, from, to, stations}
 use Rattle.netlist.specs.Accepted.{Accepted}
 use Rattle.engine.specs.declared.State.{State}
 use Rattle.engine.specs.State.{firingsAt}
-use Rattle.engine.specs.Counters.{entered, Steady}
+use Rattle.engine.specs.Fitting.{Steady}
+use Rattle.engine.specs.Counters.{entered}
 use Rattle.engine.specs.CountersLaws.{entered-source, entered-taken, limit-taken, entered-next, enabled-fires}
 use Rattle.engine.specs.Cycle.{stalled, fires, stateAfter}
 use Rattle.engine.specs.CycleLaws.{firings-next}

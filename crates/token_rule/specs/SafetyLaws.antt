@@ -29,7 +29,7 @@ use Rattle.engine.specs.State.{valueAt, firingsAt, channelIn}
 use Rattle.engine.specs.Fresh.{freshState}
 use Rattle.engine.specs.Cycle.{inputAt, fires, stateAfter}
 use Rattle.engine.specs.CycleLaws.{value-next, firings-next, fires-ready, fires-holds, tokens-next}
-use Rattle.engine.specs.Counters.{Steady}
+use Rattle.engine.specs.Fitting.{Steady}
 use Rattle.engine.specs.FreshLaws.{fresh-node, fresh-firings, fresh-tokens}
 use Rattle.engine.specs.FittingLaws.{steady-next}
 use Rattle.token_rule.specs.Safety.{Sound}

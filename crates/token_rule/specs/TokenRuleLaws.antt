@@ -20,7 +20,7 @@ use Rattle.engine.specs.State.{firingsAt}
 use Rattle.engine.specs.Fresh.{freshState, freshAnswer}
 use Rattle.engine.specs.Fitting.{Fitting}
 use Rattle.engine.specs.FreshLaws.{fresh-cycles, fresh-firings}
-use Rattle.engine.specs.FittingLaws.{fitting-fresh, fitting-steady}
+use Rattle.engine.specs.FittingLaws.{fitting-fresh}
 use Rattle.engine.specs.Answer.{setsAbove}
 use Rattle.engine.specs.Done.{FreshDone}
 use Rattle.engine.specs.Cycle.{after}
@@ -119,7 +119,7 @@ module _ (img : List ℕ) (a : Accepted img) (calls : List Call) (chain : Chain 
   sound-last : Sound img (lastState (freshState img) calls)
   sound-last =
       rw (state-there calls [] whole)
-      (sound-after img a (cyclesOf img 0 calls) (freshState img) (fitting-steady img (freshState img) (fitting-fresh img a)) (sound-fresh img a))
+      (sound-after img a (cyclesOf img 0 calls) (freshState img) (fitting-fresh img a .steady) (sound-fresh img a))
 
   rule : TokenRule img (freshState img) calls (cyclesOf img 0 calls)
   rule =
@@ -147,7 +147,7 @@ module _ (img : List ℕ) (a : Accepted img) (calls : List Call) (chain : Chain 
             let s = after img (freshState img) us in
             let fit = fits-after img a us (omega (arith, ap length e, length-append us (span ++ vs), cycles-few img calls 0 (omega arith))) in
             let behind : Furthest img s n = λ i k. rw (fired-after img a us n h, fired-after img a us i k) (least i k) in
-            progress img a s (fitting-steady img s fit) n h behind span long awake;
+            progress img a s (fit .steady) n h behind span long awake;
       }
 
 fresh-state : (img : List ℕ) (fresh : Fresh) → judge img ≡ 0 → FreshDone img fresh → fresh .state ≡ freshState img
