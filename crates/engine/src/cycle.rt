@@ -90,8 +90,8 @@ fn kinds_of(image: &[u8]) -> Kinds
 }
 
 // The state after the cycles of these words. Each cycle is worked from the state at its start, `old`,
-// and written to `s`. It is one function because a state that is handed on is copied, and that copy
-// takes as long as half of the cycle.
+// and written to `s`. It is one function because a state that is handed to another is copied, which
+// costs a tenth of the cycle each time (docs/PERFORMANCE.md).
 pub(crate) fn cycles(image: &[u8], state: State, words: &[u64]) -> State
     requires { ⌜ Accepted (now image) ⌝ }
     requires { ⌜ Fitting (now image) state ⌝ }

@@ -36,16 +36,16 @@ last c b e =
     (above (c .before .before) ∙ c .if3 .left)
 
 refusal-requires : tie.Need-refusal-requires
-refusal-requires c κs = search needs
+refusal-requires c κs = tt
 
 nodes-requires : tie.Need-nodes-requires
-nodes-requires c κs = search needs
+nodes-requires c κs = tt
 
 channels-requires : tie.Need-channels-requires
-channels-requires c κs = search needs
+channels-requires c κs = tt
 
 cast-channels : tie.Need-cast-channels
-cast-channels c = search needs
+cast-channels c = omega arith
 
 returns : tie.Need-returns
 returns c = let a = (c .before .before .before .before .before) .args in

@@ -39,7 +39,7 @@ few c =
     (omega (arith, e, f), omega (arith, e, f))
 
 refusal-requires : tie.Need-refusal-requires
-refusal-requires c κs = search needs
+refusal-requires c κs = tt
 
 returns : tie.Need-returns
 returns c = let a = (c .before .before .before .before) .args in
@@ -47,7 +47,7 @@ returns c = let a = (c .before .before .before .before) .args in
     record { answered = ap (λ (n : ℕ). record { steps = 0; number = n; state = a .state }) r ∙ run-none (a .image .now) (a .state) (a .words .now) (λ e. c .if1 .taken (r ∙ e)) }
 
 nodes-requires : tie.Need-nodes-requires
-nodes-requires c κs = search needs
+nodes-requires c κs = tt
 
 words-taken-requires : tie.Need-words-taken-requires
 words-taken-requires c κs = let k = ok (c .before) in (omega (arith, c .nodes .ensures, k .0 .few-nodes), k .1 .cycled)

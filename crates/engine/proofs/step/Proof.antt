@@ -35,7 +35,7 @@ ok c =
     (net, fit, omega (arith, fit .cycled, n .1), (n .3, n .4))
 
 number-requires : tie.Need-number-requires
-number-requires c κs = search needs
+number-requires c κs = tt
 
 returns : tie.Need-returns
 unfolding stepOf

@@ -133,636 +133,141 @@ first-place s i = ap (λ (n : ℕ). holdsTwo (held (getD (s .stations) n noStati
 abbrev word : tie.At-loop Inv-loop2 μ-loop2 Inv-loop3 μ-loop3 Inv-loop5 μ-loop5 Inv-loop4 μ-loop4 Inv-loop μ-loop → ℕ
 word c = getD ((c .before .before .before .before .before .before .before) .args .words .now) (c .loop .t) 0
 
-nodes-requires :
-    tie.Need-nodes-requires
-    Inv-loop2
-    μ-loop2
-    Inv-loop3
-    μ-loop3
-    Inv-loop5
-    μ-loop5
-    Inv-loop4
-    μ-loop4
-    Inv-loop
-    μ-loop
+nodes-requires : tie.Need-nodes-requires Inv-loop2 μ-loop2 Inv-loop3 μ-loop3 Inv-loop5 μ-loop5 Inv-loop4 μ-loop4 Inv-loop μ-loop
 nodes-requires c κs = tt
 
-cast-nodes :
-    tie.Need-cast-nodes
-    Inv-loop2
-    μ-loop2
-    Inv-loop3
-    μ-loop3
-    Inv-loop5
-    μ-loop5
-    Inv-loop4
-    μ-loop4
-    Inv-loop
-    μ-loop
+cast-nodes : tie.Need-cast-nodes Inv-loop2 μ-loop2 Inv-loop3 μ-loop3 Inv-loop5 μ-loop5 Inv-loop4 μ-loop4 Inv-loop μ-loop
 cast-nodes c = omega arith
 
-channels-requires :
-    tie.Need-channels-requires
-    Inv-loop2
-    μ-loop2
-    Inv-loop3
-    μ-loop3
-    Inv-loop5
-    μ-loop5
-    Inv-loop4
-    μ-loop4
-    Inv-loop
-    μ-loop
+channels-requires : tie.Need-channels-requires Inv-loop2 μ-loop2 Inv-loop3 μ-loop3 Inv-loop5 μ-loop5 Inv-loop4 μ-loop4 Inv-loop μ-loop
 channels-requires c κs = tt
 
-cast-channels :
-    tie.Need-cast-channels
-    Inv-loop2
-    μ-loop2
-    Inv-loop3
-    μ-loop3
-    Inv-loop5
-    μ-loop5
-    Inv-loop4
-    μ-loop4
-    Inv-loop
-    μ-loop
+cast-channels : tie.Need-cast-channels Inv-loop2 μ-loop2 Inv-loop3 μ-loop3 Inv-loop5 μ-loop5 Inv-loop4 μ-loop4 Inv-loop μ-loop
 cast-channels c = omega arith
 
-wires-of-requires :
-    tie.Need-wires-of-requires
-    Inv-loop2
-    μ-loop2
-    Inv-loop3
-    μ-loop3
-    Inv-loop5
-    μ-loop5
-    Inv-loop4
-    μ-loop4
-    Inv-loop
-    μ-loop
+wires-of-requires : tie.Need-wires-of-requires Inv-loop2 μ-loop2 Inv-loop3 μ-loop3 Inv-loop5 μ-loop5 Inv-loop4 μ-loop4 Inv-loop μ-loop
 wires-of-requires c κs = omega (arith, c .channels .ensures, (c .before .before .before .before) .pre .0 .few-channels)
 
-kinds-of-requires :
-    tie.Need-kinds-of-requires
-    Inv-loop2
-    μ-loop2
-    Inv-loop3
-    μ-loop3
-    Inv-loop5
-    μ-loop5
-    Inv-loop4
-    μ-loop4
-    Inv-loop
-    μ-loop
+kinds-of-requires : tie.Need-kinds-of-requires Inv-loop2 μ-loop2 Inv-loop3 μ-loop3 Inv-loop5 μ-loop5 Inv-loop4 μ-loop4 Inv-loop μ-loop
 kinds-of-requires c κs = omega (arith, (c .before .before) .nodes .ensures, (c .before .before .before .before .before) .pre .0 .few-nodes)
 
-loop-holds :
-    tie.Need-loop-holds
-    Inv-loop2
-    μ-loop2
-    Inv-loop3
-    μ-loop3
-    Inv-loop5
-    μ-loop5
-    Inv-loop4
-    μ-loop4
-    Inv-loop
-    μ-loop
+loop-holds : tie.Need-loop-holds Inv-loop2 μ-loop2 Inv-loop3 μ-loop3 Inv-loop5 μ-loop5 Inv-loop4 μ-loop4 Inv-loop μ-loop
 unfolding after
 loop-holds c = record { done = omega arith; state = refl; fits = (c .before .before .before .before .before .before) .pre .1 .0; count = omega (arith, (c .before .before .before .before .before .before) .pre .1 .1) }
 
-mul-word :
-    tie.Need-mul-word
-    Inv-loop2
-    μ-loop2
-    Inv-loop3
-    μ-loop3
-    Inv-loop5
-    μ-loop5
-    Inv-loop4
-    μ-loop4
-    Inv-loop
-    μ-loop
+mul-word : tie.Need-mul-word Inv-loop2 μ-loop2 Inv-loop3 μ-loop3 Inv-loop5 μ-loop5 Inv-loop4 μ-loop4 Inv-loop μ-loop
 mul-word c = omega arith
 
-shared-slice-read-word :
-    tie.Need-shared-slice-read-word
-    Inv-loop2
-    μ-loop2
-    Inv-loop3
-    μ-loop3
-    Inv-loop5
-    μ-loop5
-    Inv-loop4
-    μ-loop4
-    Inv-loop
-    μ-loop
+shared-slice-read-word : tie.Need-shared-slice-read-word Inv-loop2 μ-loop2 Inv-loop3 μ-loop3 Inv-loop5 μ-loop5 Inv-loop4 μ-loop4 Inv-loop μ-loop
 shared-slice-read-word c = omega arith
 
-loop2-holds :
-    tie.Need-loop2-holds
-    Inv-loop2
-    μ-loop2
-    Inv-loop3
-    μ-loop3
-    Inv-loop5
-    μ-loop5
-    Inv-loop4
-    μ-loop4
-    Inv-loop
-    μ-loop
+loop2-holds : tie.Need-loop2-holds Inv-loop2 μ-loop2 Inv-loop3 μ-loop3 Inv-loop5 μ-loop5 Inv-loop4 μ-loop4 Inv-loop μ-loop
 unfolding starvedBelow broughtBelow blockedBelow anyBelow portsBelow table
 loop2-holds c = (omega arith, refl, refl, refl)
 
-mul-channel :
-    tie.Need-mul-channel
-    Inv-loop2
-    μ-loop2
-    Inv-loop3
-    μ-loop3
-    Inv-loop5
-    μ-loop5
-    Inv-loop4
-    μ-loop4
-    Inv-loop
-    μ-loop
+mul-channel : tie.Need-mul-channel Inv-loop2 μ-loop2 Inv-loop3 μ-loop3 Inv-loop5 μ-loop5 Inv-loop4 μ-loop4 Inv-loop μ-loop
 mul-channel c = omega (arith, within (c .before .before .before .before .before) ((c .before) .loop2 .c) (scanned c))
 
-element-copy-out-channel :
-    tie.Need-element-copy-out-channel
-    Inv-loop2
-    μ-loop2
-    Inv-loop3
-    μ-loop3
-    Inv-loop5
-    μ-loop5
-    Inv-loop4
-    μ-loop4
-    Inv-loop
-    μ-loop
+element-copy-out-channel : tie.Need-element-copy-out-channel Inv-loop2 μ-loop2 Inv-loop3 μ-loop3 Inv-loop5 μ-loop5 Inv-loop4 μ-loop4 Inv-loop μ-loop
 element-copy-out-channel c = omega (arith, within (c .before .before .before .before .before) ((c .before) .loop2 .c) (scanned c))
 
-cast-from :
-    tie.Need-cast-from
-    Inv-loop2
-    μ-loop2
-    Inv-loop3
-    μ-loop3
-    Inv-loop5
-    μ-loop5
-    Inv-loop4
-    μ-loop4
-    Inv-loop
-    μ-loop
+cast-from : tie.Need-cast-from Inv-loop2 μ-loop2 Inv-loop3 μ-loop3 Inv-loop5 μ-loop5 Inv-loop4 μ-loop4 Inv-loop μ-loop
 cast-from c = omega (arith, within (c .before .before .before .before .before .before .before) ((c .before .before .before) .loop2 .c) (scanned (c .before .before)))
 
-cast-to :
-    tie.Need-cast-to
-    Inv-loop2
-    μ-loop2
-    Inv-loop3
-    μ-loop3
-    Inv-loop5
-    μ-loop5
-    Inv-loop4
-    μ-loop4
-    Inv-loop
-    μ-loop
+cast-to : tie.Need-cast-to Inv-loop2 μ-loop2 Inv-loop3 μ-loop3 Inv-loop5 μ-loop5 Inv-loop4 μ-loop4 Inv-loop μ-loop
 cast-to c = omega (arith, within (c .before .before .before .before .before .before .before .before) ((c .before .before .before .before) .loop2 .c) (scanned (c .before .before .before)))
 
-cast-length :
-    tie.Need-cast-length
-    Inv-loop2
-    μ-loop2
-    Inv-loop3
-    μ-loop3
-    Inv-loop5
-    μ-loop5
-    Inv-loop4
-    μ-loop4
-    Inv-loop
-    μ-loop
+cast-length : tie.Need-cast-length Inv-loop2 μ-loop2 Inv-loop3 μ-loop3 Inv-loop5 μ-loop5 Inv-loop4 μ-loop4 Inv-loop μ-loop
 cast-length c = omega (arith, within (c .before .before .before .before .before .before .before .before .before) ((c .before .before .before .before .before) .loop2 .c) (scanned (c .before .before .before .before)))
 
-mul-node :
-    tie.Need-mul-node
-    Inv-loop2
-    μ-loop2
-    Inv-loop3
-    μ-loop3
-    Inv-loop5
-    μ-loop5
-    Inv-loop4
-    μ-loop4
-    Inv-loop
-    μ-loop
+mul-node : tie.Need-mul-node Inv-loop2 μ-loop2 Inv-loop3 μ-loop3 Inv-loop5 μ-loop5 Inv-loop4 μ-loop4 Inv-loop μ-loop
 mul-node c = omega (arith, within (c .before .before .before .before .before .before .before .before .before) ((c .before .before .before .before .before) .loop2 .c) (scanned (c .before .before .before .before)))
 
-element-copy-out-node :
-    tie.Need-element-copy-out-node
-    Inv-loop2
-    μ-loop2
-    Inv-loop3
-    μ-loop3
-    Inv-loop5
-    μ-loop5
-    Inv-loop4
-    μ-loop4
-    Inv-loop
-    μ-loop
+element-copy-out-node : tie.Need-element-copy-out-node Inv-loop2 μ-loop2 Inv-loop3 μ-loop3 Inv-loop5 μ-loop5 Inv-loop4 μ-loop4 Inv-loop μ-loop
 element-copy-out-node c = omega (arith, within (c .before .before .before .before .before .before .before .before .before) ((c .before .before .before .before .before) .loop2 .c) (scanned (c .before .before .before .before)))
 
-mul-queue :
-    tie.Need-mul-queue
-    Inv-loop2
-    μ-loop2
-    Inv-loop3
-    μ-loop3
-    Inv-loop5
-    μ-loop5
-    Inv-loop4
-    μ-loop4
-    Inv-loop
-    μ-loop
+mul-queue : tie.Need-mul-queue Inv-loop2 μ-loop2 Inv-loop3 μ-loop3 Inv-loop5 μ-loop5 Inv-loop4 μ-loop4 Inv-loop μ-loop
 mul-queue c = omega (arith, within (c .before .before .before .before .before .before .before .before .before .before) ((c .before .before .before .before .before .before) .loop2 .c) (scanned (c .before .before .before .before .before)))
 
-element-copy-out-queue :
-    tie.Need-element-copy-out-queue
-    Inv-loop2
-    μ-loop2
-    Inv-loop3
-    μ-loop3
-    Inv-loop5
-    μ-loop5
-    Inv-loop4
-    μ-loop4
-    Inv-loop
-    μ-loop
+element-copy-out-queue : tie.Need-element-copy-out-queue Inv-loop2 μ-loop2 Inv-loop3 μ-loop3 Inv-loop5 μ-loop5 Inv-loop4 μ-loop4 Inv-loop μ-loop
 element-copy-out-queue c = omega (arith, within (c .before .before .before .before .before .before .before .before .before .before) ((c .before .before .before .before .before .before) .loop2 .c) (scanned (c .before .before .before .before .before)))
 
-element-copy-out-pending :
-    tie.Need-element-copy-out-pending
-    Inv-loop2
-    μ-loop2
-    Inv-loop3
-    μ-loop3
-    Inv-loop5
-    μ-loop5
-    Inv-loop4
-    μ-loop4
-    Inv-loop
-    μ-loop
+element-copy-out-pending : tie.Need-element-copy-out-pending Inv-loop2 μ-loop2 Inv-loop3 μ-loop3 Inv-loop5 μ-loop5 Inv-loop4 μ-loop4 Inv-loop μ-loop
 element-copy-out-pending c = omega (arith, within (c .before .before .before .before .before .before .before .before .before .before .before) ((c .before .before .before .before .before .before .before) .loop2 .c) (scanned (c .before .before .before .before .before .before)))
 
-full-requires :
-    tie.Need-full-requires
-    Inv-loop2
-    μ-loop2
-    Inv-loop3
-    μ-loop3
-    Inv-loop5
-    μ-loop5
-    Inv-loop4
-    μ-loop4
-    Inv-loop
-    μ-loop
+full-requires : tie.Need-full-requires Inv-loop2 μ-loop2 Inv-loop3 μ-loop3 Inv-loop5 μ-loop5 Inv-loop4 μ-loop4 Inv-loop μ-loop
 full-requires c κs = tt
 
-mul-last :
-    tie.Need-mul-last
-    Inv-loop2
-    μ-loop2
-    Inv-loop3
-    μ-loop3
-    Inv-loop5
-    μ-loop5
-    Inv-loop4
-    μ-loop4
-    Inv-loop
-    μ-loop
+mul-last : tie.Need-mul-last Inv-loop2 μ-loop2 Inv-loop3 μ-loop3 Inv-loop5 μ-loop5 Inv-loop4 μ-loop4 Inv-loop μ-loop
 mul-last c = omega (arith, within (c .before .before .before .before .before .before .before .before .before .before .before .before .before .before .before) ((c .before .before .before .before .before .before .before .before .before .before .before) .loop2 .c) (scanned (c .before .before .before .before .before .before .before .before .before .before)))
 
-sub-last :
-    tie.Need-sub-last
-    Inv-loop2
-    μ-loop2
-    Inv-loop3
-    μ-loop3
-    Inv-loop5
-    μ-loop5
-    Inv-loop4
-    μ-loop4
-    Inv-loop
-    μ-loop
+sub-last : tie.Need-sub-last Inv-loop2 μ-loop2 Inv-loop3 μ-loop3 Inv-loop5 μ-loop5 Inv-loop4 μ-loop4 Inv-loop μ-loop
 sub-last c = omega (arith, within (c .before .before .before .before .before .before .before .before .before .before .before .before .before .before .before) ((c .before .before .before .before .before .before .before .before .before .before .before) .loop2 .c) (scanned (c .before .before .before .before .before .before .before .before .before .before)))
 
-add-last :
-    tie.Need-add-last
-    Inv-loop2
-    μ-loop2
-    Inv-loop3
-    μ-loop3
-    Inv-loop5
-    μ-loop5
-    Inv-loop4
-    μ-loop4
-    Inv-loop
-    μ-loop
+add-last : tie.Need-add-last Inv-loop2 μ-loop2 Inv-loop3 μ-loop3 Inv-loop5 μ-loop5 Inv-loop4 μ-loop4 Inv-loop μ-loop
 add-last c = omega (arith, within (c .before .before .before .before .before .before .before .before .before .before .before .before .before .before .before) ((c .before .before .before .before .before .before .before .before .before .before .before) .loop2 .c) (scanned (c .before .before .before .before .before .before .before .before .before .before)))
 
-mul-last-2 :
-    tie.Need-mul-last-2
-    Inv-loop2
-    μ-loop2
-    Inv-loop3
-    μ-loop3
-    Inv-loop5
-    μ-loop5
-    Inv-loop4
-    μ-loop4
-    Inv-loop
-    μ-loop
+mul-last-2 : tie.Need-mul-last-2 Inv-loop2 μ-loop2 Inv-loop3 μ-loop3 Inv-loop5 μ-loop5 Inv-loop4 μ-loop4 Inv-loop μ-loop
 mul-last-2 c = omega (arith, within (c .before .before .before .before .before .before .before .before .before .before .before .before .before .before .before) ((c .before .before .before .before .before .before .before .before .before .before .before) .loop2 .c) (scanned (c .before .before .before .before .before .before .before .before .before .before)))
 
-element-copy-out-last :
-    tie.Need-element-copy-out-last
-    Inv-loop2
-    μ-loop2
-    Inv-loop3
-    μ-loop3
-    Inv-loop5
-    μ-loop5
-    Inv-loop4
-    μ-loop4
-    Inv-loop
-    μ-loop
+element-copy-out-last : tie.Need-element-copy-out-last Inv-loop2 μ-loop2 Inv-loop3 μ-loop3 Inv-loop5 μ-loop5 Inv-loop4 μ-loop4 Inv-loop μ-loop
 element-copy-out-last c = omega (arith, within (c .before .before .before .before .before .before .before .before .before .before .before .before .before .before .before) ((c .before .before .before .before .before .before .before .before .before .before .before) .loop2 .c) (scanned (c .before .before .before .before .before .before .before .before .before .before)))
 
-link-requires :
-    tie.Need-link-requires
-    Inv-loop2
-    μ-loop2
-    Inv-loop3
-    μ-loop3
-    Inv-loop5
-    μ-loop5
-    Inv-loop4
-    μ-loop4
-    Inv-loop
-    μ-loop
+link-requires : tie.Need-link-requires Inv-loop2 μ-loop2 Inv-loop3 μ-loop3 Inv-loop5 μ-loop5 Inv-loop4 μ-loop4 Inv-loop μ-loop
 link-requires c κs = tt
 
-mul-first :
-    tie.Need-mul-first
-    Inv-loop2
-    μ-loop2
-    Inv-loop3
-    μ-loop3
-    Inv-loop5
-    μ-loop5
-    Inv-loop4
-    μ-loop4
-    Inv-loop
-    μ-loop
+mul-first : tie.Need-mul-first Inv-loop2 μ-loop2 Inv-loop3 μ-loop3 Inv-loop5 μ-loop5 Inv-loop4 μ-loop4 Inv-loop μ-loop
 mul-first c = omega (arith, within (c .before .before .before .before .before .before .before .before .before .before .before .before .before .before .before .before .before) ((c .before .before .before .before .before .before .before .before .before .before .before .before .before) .loop2 .c) (scanned (c .before .before .before .before .before .before .before .before .before .before .before .before)))
 
-mul-first-2 :
-    tie.Need-mul-first-2
-    Inv-loop2
-    μ-loop2
-    Inv-loop3
-    μ-loop3
-    Inv-loop5
-    μ-loop5
-    Inv-loop4
-    μ-loop4
-    Inv-loop
-    μ-loop
+mul-first-2 : tie.Need-mul-first-2 Inv-loop2 μ-loop2 Inv-loop3 μ-loop3 Inv-loop5 μ-loop5 Inv-loop4 μ-loop4 Inv-loop μ-loop
 mul-first-2 c = omega (arith, within (c .before .before .before .before .before .before .before .before .before .before .before .before .before .before .before .before .before) ((c .before .before .before .before .before .before .before .before .before .before .before .before .before) .loop2 .c) (scanned (c .before .before .before .before .before .before .before .before .before .before .before .before)))
 
-element-copy-out-first :
-    tie.Need-element-copy-out-first
-    Inv-loop2
-    μ-loop2
-    Inv-loop3
-    μ-loop3
-    Inv-loop5
-    μ-loop5
-    Inv-loop4
-    μ-loop4
-    Inv-loop
-    μ-loop
+element-copy-out-first : tie.Need-element-copy-out-first Inv-loop2 μ-loop2 Inv-loop3 μ-loop3 Inv-loop5 μ-loop5 Inv-loop4 μ-loop4 Inv-loop μ-loop
 element-copy-out-first c = omega (arith, within (c .before .before .before .before .before .before .before .before .before .before .before .before .before .before .before .before .before) ((c .before .before .before .before .before .before .before .before .before .before .before .before .before) .loop2 .c) (scanned (c .before .before .before .before .before .before .before .before .before .before .before .before)))
 
-full-requires-2 :
-    tie.Need-full-requires-2
-    Inv-loop2
-    μ-loop2
-    Inv-loop3
-    μ-loop3
-    Inv-loop5
-    μ-loop5
-    Inv-loop4
-    μ-loop4
-    Inv-loop
-    μ-loop
+full-requires-2 : tie.Need-full-requires-2 Inv-loop2 μ-loop2 Inv-loop3 μ-loop3 Inv-loop5 μ-loop5 Inv-loop4 μ-loop4 Inv-loop μ-loop
 full-requires-2 c κs = tt
 
-input-requires :
-    tie.Need-input-requires
-    Inv-loop2
-    μ-loop2
-    Inv-loop3
-    μ-loop3
-    Inv-loop5
-    μ-loop5
-    Inv-loop4
-    μ-loop4
-    Inv-loop
-    μ-loop
+input-requires : tie.Need-input-requires Inv-loop2 μ-loop2 Inv-loop3 μ-loop3 Inv-loop5 μ-loop5 Inv-loop4 μ-loop4 Inv-loop μ-loop
 input-requires c κs = tt
 
-mul-brought :
-    tie.Need-mul-brought
-    Inv-loop2
-    μ-loop2
-    Inv-loop3
-    μ-loop3
-    Inv-loop5
-    μ-loop5
-    Inv-loop4
-    μ-loop4
-    Inv-loop
-    μ-loop
+mul-brought : tie.Need-mul-brought Inv-loop2 μ-loop2 Inv-loop3 μ-loop3 Inv-loop5 μ-loop5 Inv-loop4 μ-loop4 Inv-loop μ-loop
 mul-brought c = omega (arith, within (c .before .before .before .before .before .before .before .before .before .before .before .before .before .before .before .before .before) ((c .before .before .before .before .before .before .before .before .before .before .before .before .before) .loop2 .c) (scanned (c .before .before .before .before .before .before .before .before .before .before .before .before)))
 
-cast-brought :
-    tie.Need-cast-brought
-    Inv-loop2
-    μ-loop2
-    Inv-loop3
-    μ-loop3
-    Inv-loop5
-    μ-loop5
-    Inv-loop4
-    μ-loop4
-    Inv-loop
-    μ-loop
+cast-brought : tie.Need-cast-brought Inv-loop2 μ-loop2 Inv-loop3 μ-loop3 Inv-loop5 μ-loop5 Inv-loop4 μ-loop4 Inv-loop μ-loop
 cast-brought c = omega (arith, within (c .before .before .before .before .before .before .before .before .before .before .before .before .before .before .before .before .before .before) ((c .before .before .before .before .before .before .before .before .before .before .before .before .before .before) .loop2 .c) (scanned (c .before .before .before .before .before .before .before .before .before .before .before .before .before)))
 
-add-brought :
-    tie.Need-add-brought
-    Inv-loop2
-    μ-loop2
-    Inv-loop3
-    μ-loop3
-    Inv-loop5
-    μ-loop5
-    Inv-loop4
-    μ-loop4
-    Inv-loop
-    μ-loop
+add-brought : tie.Need-add-brought Inv-loop2 μ-loop2 Inv-loop3 μ-loop3 Inv-loop5 μ-loop5 Inv-loop4 μ-loop4 Inv-loop μ-loop
 add-brought c = omega (arith, within (c .before .before .before .before .before .before .before .before .before .before .before .before .before .before .before .before .before .before) ((c .before .before .before .before .before .before .before .before .before .before .before .before .before .before) .loop2 .c) (scanned (c .before .before .before .before .before .before .before .before .before .before .before .before .before)))
 
-mul-brought-2 :
-    tie.Need-mul-brought-2
-    Inv-loop2
-    μ-loop2
-    Inv-loop3
-    μ-loop3
-    Inv-loop5
-    μ-loop5
-    Inv-loop4
-    μ-loop4
-    Inv-loop
-    μ-loop
+mul-brought-2 : tie.Need-mul-brought-2 Inv-loop2 μ-loop2 Inv-loop3 μ-loop3 Inv-loop5 μ-loop5 Inv-loop4 μ-loop4 Inv-loop μ-loop
 mul-brought-2 c = omega (arith, within (c .before .before .before .before .before .before .before .before .before .before .before .before .before .before .before .before .before .before) ((c .before .before .before .before .before .before .before .before .before .before .before .before .before .before) .loop2 .c) (scanned (c .before .before .before .before .before .before .before .before .before .before .before .before .before)))
 
-array-set-from-brought :
-    tie.Need-array-set-from-brought
-    Inv-loop2
-    μ-loop2
-    Inv-loop3
-    μ-loop3
-    Inv-loop5
-    μ-loop5
-    Inv-loop4
-    μ-loop4
-    Inv-loop
-    μ-loop
+array-set-from-brought : tie.Need-array-set-from-brought Inv-loop2 μ-loop2 Inv-loop3 μ-loop3 Inv-loop5 μ-loop5 Inv-loop4 μ-loop4 Inv-loop μ-loop
 array-set-from-brought c = omega (arith, within (c .before .before .before .before .before .before .before .before .before .before .before .before .before .before .before .before .before .before) ((c .before .before .before .before .before .before .before .before .before .before .before .before .before .before) .loop2 .c) (scanned (c .before .before .before .before .before .before .before .before .before .before .before .before .before)))
 
-array-read-starved :
-    tie.Need-array-read-starved
-    Inv-loop2
-    μ-loop2
-    Inv-loop3
-    μ-loop3
-    Inv-loop5
-    μ-loop5
-    Inv-loop4
-    μ-loop4
-    Inv-loop
-    μ-loop
+array-read-starved : tie.Need-array-read-starved Inv-loop2 μ-loop2 Inv-loop3 μ-loop3 Inv-loop5 μ-loop5 Inv-loop4 μ-loop4 Inv-loop μ-loop
 array-read-starved c = omega (arith, within (c .before .before .before .before .before .before .before .before .before .before .before .before .before .before .before .before .before .before) ((c .before .before .before .before .before .before .before .before .before .before .before .before .before .before) .loop2 .c) (scanned (c .before .before .before .before .before .before .before .before .before .before .before .before .before)))
 
-array-write-starved :
-    tie.Need-array-write-starved
-    Inv-loop2
-    μ-loop2
-    Inv-loop3
-    μ-loop3
-    Inv-loop5
-    μ-loop5
-    Inv-loop4
-    μ-loop4
-    Inv-loop
-    μ-loop
+array-write-starved : tie.Need-array-write-starved Inv-loop2 μ-loop2 Inv-loop3 μ-loop3 Inv-loop5 μ-loop5 Inv-loop4 μ-loop4 Inv-loop μ-loop
 array-write-starved c = omega (arith, within (c .before .before .before .before .before .before .before .before .before .before .before .before .before .before .before .before .before .before .before) ((c .before .before .before .before .before .before .before .before .before .before .before .before .before .before .before) .loop2 .c) (scanned (c .before .before .before .before .before .before .before .before .before .before .before .before .before .before)))
 
-array-read-blocked :
-    tie.Need-array-read-blocked
-    Inv-loop2
-    μ-loop2
-    Inv-loop3
-    μ-loop3
-    Inv-loop5
-    μ-loop5
-    Inv-loop4
-    μ-loop4
-    Inv-loop
-    μ-loop
+array-read-blocked : tie.Need-array-read-blocked Inv-loop2 μ-loop2 Inv-loop3 μ-loop3 Inv-loop5 μ-loop5 Inv-loop4 μ-loop4 Inv-loop μ-loop
 array-read-blocked c = omega (arith, within (c .before .before .before .before .before .before .before .before .before .before .before .before .before .before .before .before .before .before .before) ((c .before .before .before .before .before .before .before .before .before .before .before .before .before .before .before) .loop2 .c) (scanned (c .before .before .before .before .before .before .before .before .before .before .before .before .before .before)))
 
-blocked-requires :
-    tie.Need-blocked-requires
-    Inv-loop2
-    μ-loop2
-    Inv-loop3
-    μ-loop3
-    Inv-loop5
-    μ-loop5
-    Inv-loop4
-    μ-loop4
-    Inv-loop
-    μ-loop
+blocked-requires : tie.Need-blocked-requires Inv-loop2 μ-loop2 Inv-loop3 μ-loop3 Inv-loop5 μ-loop5 Inv-loop4 μ-loop4 Inv-loop μ-loop
 blocked-requires c κs = tt
 
-array-write-blocked :
-    tie.Need-array-write-blocked
-    Inv-loop2
-    μ-loop2
-    Inv-loop3
-    μ-loop3
-    Inv-loop5
-    μ-loop5
-    Inv-loop4
-    μ-loop4
-    Inv-loop
-    μ-loop
+array-write-blocked : tie.Need-array-write-blocked Inv-loop2 μ-loop2 Inv-loop3 μ-loop3 Inv-loop5 μ-loop5 Inv-loop4 μ-loop4 Inv-loop μ-loop
 array-write-blocked c = omega (arith, within (c .before .before .before .before .before .before .before .before .before .before .before .before .before .before .before .before .before .before .before .before) ((c .before .before .before .before .before .before .before .before .before .before .before .before .before .before .before .before) .loop2 .c) (scanned (c .before .before .before .before .before .before .before .before .before .before .before .before .before .before .before)))
 
-add-c :
-    tie.Need-add-c
-    Inv-loop2
-    μ-loop2
-    Inv-loop3
-    μ-loop3
-    Inv-loop5
-    μ-loop5
-    Inv-loop4
-    μ-loop4
-    Inv-loop
-    μ-loop
+add-c : tie.Need-add-c Inv-loop2 μ-loop2 Inv-loop3 μ-loop3 Inv-loop5 μ-loop5 Inv-loop4 μ-loop4 Inv-loop μ-loop
 add-c c = omega (arith, within (c .before .before .before .before .before .before .before .before .before .before .before .before .before .before .before .before .before .before .before .before) ((c .before .before .before .before .before .before .before .before .before .before .before .before .before .before .before .before) .loop2 .c) (scanned (c .before .before .before .before .before .before .before .before .before .before .before .before .before .before .before)))
 
-loop2-less :
-    tie.Need-loop2-less
-    Inv-loop2
-    μ-loop2
-    Inv-loop3
-    μ-loop3
-    Inv-loop5
-    μ-loop5
-    Inv-loop4
-    μ-loop4
-    Inv-loop
-    μ-loop
+loop2-less : tie.Need-loop2-less Inv-loop2 μ-loop2 Inv-loop3 μ-loop3 Inv-loop5 μ-loop5 Inv-loop4 μ-loop4 Inv-loop μ-loop
 loop2-less c = omega arith
 
-loop2-again :
-    tie.Need-loop2-again
-    Inv-loop2
-    μ-loop2
-    Inv-loop3
-    μ-loop3
-    Inv-loop5
-    μ-loop5
-    Inv-loop4
-    μ-loop4
-    Inv-loop
-    μ-loop
+loop2-again : tie.Need-loop2-again Inv-loop2 μ-loop2 Inv-loop3 μ-loop3 Inv-loop5 μ-loop5 Inv-loop4 μ-loop4 Inv-loop μ-loop
 loop2-again c = let k = (c .before .before .before .before .before .before .before .before .before .before .before .before .before .before .before .before .before .before .before .before) in
     let s = (c .before .before .before .before .before .before .before .before .before .before .before .before .before .before .before .before .before .before .before) .loop .s in
     let fit = (c .before .before .before .before .before .before .before .before .before .before .before .before .before .before .before .before .before .before .before) .loop .inv .fits in
@@ -790,271 +295,62 @@ loop2-again c = let k = (c .before .before .before .before .before .before .befo
       blocked-read (img k) (net k) s fit i h _ e _ (inv .3) _ (c .blocked .ensures ∙ held-read (img k) (net k) s fit i h _ e (join .stop) stop),
     )
 
-loop3-holds :
-    tie.Need-loop3-holds
-    Inv-loop2
-    μ-loop2
-    Inv-loop3
-    μ-loop3
-    Inv-loop5
-    μ-loop5
-    Inv-loop4
-    μ-loop4
-    Inv-loop
-    μ-loop
+loop3-holds : tie.Need-loop3-holds Inv-loop2 μ-loop2 Inv-loop3 μ-loop3 Inv-loop5 μ-loop5 Inv-loop4 μ-loop4 Inv-loop μ-loop
 unfolding movedBelow nodesBelow firesBelow tableOver table
 loop3-holds c = (omega arith, refl, refl)
 
-stalls-requires :
-    tie.Need-stalls-requires
-    Inv-loop2
-    μ-loop2
-    Inv-loop3
-    μ-loop3
-    Inv-loop5
-    μ-loop5
-    Inv-loop4
-    μ-loop4
-    Inv-loop
-    μ-loop
+stalls-requires : tie.Need-stalls-requires Inv-loop2 μ-loop2 Inv-loop3 μ-loop3 Inv-loop5 μ-loop5 Inv-loop4 μ-loop4 Inv-loop μ-loop
 stalls-requires c κs = omega (arith, few (c .before .before .before .before .before .before .before))
 
-array-read-if2 :
-    tie.Need-array-read-if2
-    Inv-loop2
-    μ-loop2
-    Inv-loop3
-    μ-loop3
-    Inv-loop5
-    μ-loop5
-    Inv-loop4
-    μ-loop4
-    Inv-loop
-    μ-loop
+array-read-if2 : tie.Need-array-read-if2 Inv-loop2 μ-loop2 Inv-loop3 μ-loop3 Inv-loop5 μ-loop5 Inv-loop4 μ-loop4 Inv-loop μ-loop
 array-read-if2 c = omega (arith, few (c .before .before .before .before .before .before .before .before))
 
-array-read-if2-2 :
-    tie.Need-array-read-if2-2
-    Inv-loop2
-    μ-loop2
-    Inv-loop3
-    μ-loop3
-    Inv-loop5
-    μ-loop5
-    Inv-loop4
-    μ-loop4
-    Inv-loop
-    μ-loop
+array-read-if2-2 : tie.Need-array-read-if2-2 Inv-loop2 μ-loop2 Inv-loop3 μ-loop3 Inv-loop5 μ-loop5 Inv-loop4 μ-loop4 Inv-loop μ-loop
 array-read-if2-2 c = omega (arith, few (c .before .before .before .before .before .before .before .before))
 
-mul-node-2 :
-    tie.Need-mul-node-2
-    Inv-loop2
-    μ-loop2
-    Inv-loop3
-    μ-loop3
-    Inv-loop5
-    μ-loop5
-    Inv-loop4
-    μ-loop4
-    Inv-loop
-    μ-loop
+mul-node-2 : tie.Need-mul-node-2 Inv-loop2 μ-loop2 Inv-loop3 μ-loop3 Inv-loop5 μ-loop5 Inv-loop4 μ-loop4 Inv-loop μ-loop
 mul-node-2 c = omega (arith, few (c .before .before .before .before .before .before .before .before .before))
 
-element-copy-out-node-2 :
-    tie.Need-element-copy-out-node-2
-    Inv-loop2
-    μ-loop2
-    Inv-loop3
-    μ-loop3
-    Inv-loop5
-    μ-loop5
-    Inv-loop4
-    μ-loop4
-    Inv-loop
-    μ-loop
+element-copy-out-node-2 : tie.Need-element-copy-out-node-2 Inv-loop2 μ-loop2 Inv-loop3 μ-loop3 Inv-loop5 μ-loop5 Inv-loop4 μ-loop4 Inv-loop μ-loop
 element-copy-out-node-2 c = omega (arith, few (c .before .before .before .before .before .before .before .before .before))
 
-element-copy-out-fired :
-    tie.Need-element-copy-out-fired
-    Inv-loop2
-    μ-loop2
-    Inv-loop3
-    μ-loop3
-    Inv-loop5
-    μ-loop5
-    Inv-loop4
-    μ-loop4
-    Inv-loop
-    μ-loop
+element-copy-out-fired : tie.Need-element-copy-out-fired Inv-loop2 μ-loop2 Inv-loop3 μ-loop3 Inv-loop5 μ-loop5 Inv-loop4 μ-loop4 Inv-loop μ-loop
 element-copy-out-fired c = omega (arith, few (c .before .before .before .before .before .before .before .before .before .before))
 
-mul-fired :
-    tie.Need-mul-fired
-    Inv-loop2
-    μ-loop2
-    Inv-loop3
-    μ-loop3
-    Inv-loop5
-    μ-loop5
-    Inv-loop4
-    μ-loop4
-    Inv-loop
-    μ-loop
+mul-fired : tie.Need-mul-fired Inv-loop2 μ-loop2 Inv-loop3 μ-loop3 Inv-loop5 μ-loop5 Inv-loop4 μ-loop4 Inv-loop μ-loop
 mul-fired c = omega (arith, few (c .before .before .before .before .before .before .before .before .before .before .before))
 
-mul-fired-2 :
-    tie.Need-mul-fired-2
-    Inv-loop2
-    μ-loop2
-    Inv-loop3
-    μ-loop3
-    Inv-loop5
-    μ-loop5
-    Inv-loop4
-    μ-loop4
-    Inv-loop
-    μ-loop
+mul-fired-2 : tie.Need-mul-fired-2 Inv-loop2 μ-loop2 Inv-loop3 μ-loop3 Inv-loop5 μ-loop5 Inv-loop4 μ-loop4 Inv-loop μ-loop
 mul-fired-2 c = omega (arith, few (c .before .before .before .before .before .before .before .before .before .before .before))
 
-array-copy-out-fired :
-    tie.Need-array-copy-out-fired
-    Inv-loop2
-    μ-loop2
-    Inv-loop3
-    μ-loop3
-    Inv-loop5
-    μ-loop5
-    Inv-loop4
-    μ-loop4
-    Inv-loop
-    μ-loop
+array-copy-out-fired : tie.Need-array-copy-out-fired Inv-loop2 μ-loop2 Inv-loop3 μ-loop3 Inv-loop5 μ-loop5 Inv-loop4 μ-loop4 Inv-loop μ-loop
 array-copy-out-fired c = omega (arith, few (c .before .before .before .before .before .before .before .before .before .before .before))
 
-mul-fired-3 :
-    tie.Need-mul-fired-3
-    Inv-loop2
-    μ-loop2
-    Inv-loop3
-    μ-loop3
-    Inv-loop5
-    μ-loop5
-    Inv-loop4
-    μ-loop4
-    Inv-loop
-    μ-loop
+mul-fired-3 : tie.Need-mul-fired-3 Inv-loop2 μ-loop2 Inv-loop3 μ-loop3 Inv-loop5 μ-loop5 Inv-loop4 μ-loop4 Inv-loop μ-loop
 mul-fired-3 c = omega (arith, few (c .before .before .before .before .before .before .before .before .before .before .before .before))
 
-add-fired :
-    tie.Need-add-fired
-    Inv-loop2
-    μ-loop2
-    Inv-loop3
-    μ-loop3
-    Inv-loop5
-    μ-loop5
-    Inv-loop4
-    μ-loop4
-    Inv-loop
-    μ-loop
+add-fired : tie.Need-add-fired Inv-loop2 μ-loop2 Inv-loop3 μ-loop3 Inv-loop5 μ-loop5 Inv-loop4 μ-loop4 Inv-loop μ-loop
 add-fired c = omega (arith, few (c .before .before .before .before .before .before .before .before .before .before .before .before))
 
-mul-fired-4 :
-    tie.Need-mul-fired-4
-    Inv-loop2
-    μ-loop2
-    Inv-loop3
-    μ-loop3
-    Inv-loop5
-    μ-loop5
-    Inv-loop4
-    μ-loop4
-    Inv-loop
-    μ-loop
+mul-fired-4 : tie.Need-mul-fired-4 Inv-loop2 μ-loop2 Inv-loop3 μ-loop3 Inv-loop5 μ-loop5 Inv-loop4 μ-loop4 Inv-loop μ-loop
 mul-fired-4 c = omega (arith, few (c .before .before .before .before .before .before .before .before .before .before .before .before))
 
-array-copy-out-fired-2 :
-    tie.Need-array-copy-out-fired-2
-    Inv-loop2
-    μ-loop2
-    Inv-loop3
-    μ-loop3
-    Inv-loop5
-    μ-loop5
-    Inv-loop4
-    μ-loop4
-    Inv-loop
-    μ-loop
+array-copy-out-fired-2 : tie.Need-array-copy-out-fired-2 Inv-loop2 μ-loop2 Inv-loop3 μ-loop3 Inv-loop5 μ-loop5 Inv-loop4 μ-loop4 Inv-loop μ-loop
 array-copy-out-fired-2 c = omega (arith, few (c .before .before .before .before .before .before .before .before .before .before .before .before))
 
-mul-fired-5 :
-    tie.Need-mul-fired-5
-    Inv-loop2
-    μ-loop2
-    Inv-loop3
-    μ-loop3
-    Inv-loop5
-    μ-loop5
-    Inv-loop4
-    μ-loop4
-    Inv-loop
-    μ-loop
+mul-fired-5 : tie.Need-mul-fired-5 Inv-loop2 μ-loop2 Inv-loop3 μ-loop3 Inv-loop5 μ-loop5 Inv-loop4 μ-loop4 Inv-loop μ-loop
 mul-fired-5 c = omega (arith, few (c .before .before .before .before .before .before .before .before .before .before .before .before .before))
 
-add-fired-2 :
-    tie.Need-add-fired-2
-    Inv-loop2
-    μ-loop2
-    Inv-loop3
-    μ-loop3
-    Inv-loop5
-    μ-loop5
-    Inv-loop4
-    μ-loop4
-    Inv-loop
-    μ-loop
+add-fired-2 : tie.Need-add-fired-2 Inv-loop2 μ-loop2 Inv-loop3 μ-loop3 Inv-loop5 μ-loop5 Inv-loop4 μ-loop4 Inv-loop μ-loop
 add-fired-2 c = omega (arith, few (c .before .before .before .before .before .before .before .before .before .before .before .before .before))
 
-mul-fired-6 :
-    tie.Need-mul-fired-6
-    Inv-loop2
-    μ-loop2
-    Inv-loop3
-    μ-loop3
-    Inv-loop5
-    μ-loop5
-    Inv-loop4
-    μ-loop4
-    Inv-loop
-    μ-loop
+mul-fired-6 : tie.Need-mul-fired-6 Inv-loop2 μ-loop2 Inv-loop3 μ-loop3 Inv-loop5 μ-loop5 Inv-loop4 μ-loop4 Inv-loop μ-loop
 mul-fired-6 c = omega (arith, few (c .before .before .before .before .before .before .before .before .before .before .before .before .before))
 
-array-copy-out-fired-3 :
-    tie.Need-array-copy-out-fired-3
-    Inv-loop2
-    μ-loop2
-    Inv-loop3
-    μ-loop3
-    Inv-loop5
-    μ-loop5
-    Inv-loop4
-    μ-loop4
-    Inv-loop
-    μ-loop
+array-copy-out-fired-3 : tie.Need-array-copy-out-fired-3 Inv-loop2 μ-loop2 Inv-loop3 μ-loop3 Inv-loop5 μ-loop5 Inv-loop4 μ-loop4 Inv-loop μ-loop
 array-copy-out-fired-3 c = omega (arith, few (c .before .before .before .before .before .before .before .before .before .before .before .before .before))
 
-fired-requires :
-    tie.Need-fired-requires
-    Inv-loop2
-    μ-loop2
-    Inv-loop3
-    μ-loop3
-    Inv-loop5
-    μ-loop5
-    Inv-loop4
-    μ-loop4
-    Inv-loop
-    μ-loop
+fired-requires : tie.Need-fired-requires Inv-loop2 μ-loop2 Inv-loop3 μ-loop3 Inv-loop5 μ-loop5 Inv-loop4 μ-loop4 Inv-loop μ-loop
 unfolding nodeAt
 fired-requires c κs = let k = (c .before .before .before .before .before .before .before .before .before .before .before .before .before .before) in
     let s = (c .before .before .before .before .before .before .before .before .before .before .before .before .before) .loop .s in
@@ -1063,88 +359,22 @@ fired-requires c κs = let k = (c .before .before .before .before .before .befor
     let h : getD (s .nodes) n noNode .firings < 1000000 = omega (arith, (c .before .before .before .before .before .before .before .before .before .before .before .before .before) .loop .inv .fits .fired n there, (c .before .before .before .before .before .before .before .before .before .before .before .before .before) .loop .inv .count) in
     h
 
-mul-next :
-    tie.Need-mul-next
-    Inv-loop2
-    μ-loop2
-    Inv-loop3
-    μ-loop3
-    Inv-loop5
-    μ-loop5
-    Inv-loop4
-    μ-loop4
-    Inv-loop
-    μ-loop
+mul-next : tie.Need-mul-next Inv-loop2 μ-loop2 Inv-loop3 μ-loop3 Inv-loop5 μ-loop5 Inv-loop4 μ-loop4 Inv-loop μ-loop
 mul-next c = omega (arith, few (c .before .before .before .before .before .before .before .before .before .before .before .before .before .before .before))
 
-element-set-from-next :
-    tie.Need-element-set-from-next
-    Inv-loop2
-    μ-loop2
-    Inv-loop3
-    μ-loop3
-    Inv-loop5
-    μ-loop5
-    Inv-loop4
-    μ-loop4
-    Inv-loop
-    μ-loop
+element-set-from-next : tie.Need-element-set-from-next Inv-loop2 μ-loop2 Inv-loop3 μ-loop3 Inv-loop5 μ-loop5 Inv-loop4 μ-loop4 Inv-loop μ-loop
 element-set-from-next c = omega (arith, few (c .before .before .before .before .before .before .before .before .before .before .before .before .before .before .before))
 
-array-write-fires :
-    tie.Need-array-write-fires
-    Inv-loop2
-    μ-loop2
-    Inv-loop3
-    μ-loop3
-    Inv-loop5
-    μ-loop5
-    Inv-loop4
-    μ-loop4
-    Inv-loop
-    μ-loop
+array-write-fires : tie.Need-array-write-fires Inv-loop2 μ-loop2 Inv-loop3 μ-loop3 Inv-loop5 μ-loop5 Inv-loop4 μ-loop4 Inv-loop μ-loop
 array-write-fires c = omega (arith, few (c .before .before .before .before .before .before .before .before .before .before .before .before .before .before .before))
 
-add-n :
-    tie.Need-add-n
-    Inv-loop2
-    μ-loop2
-    Inv-loop3
-    μ-loop3
-    Inv-loop5
-    μ-loop5
-    Inv-loop4
-    μ-loop4
-    Inv-loop
-    μ-loop
+add-n : tie.Need-add-n Inv-loop2 μ-loop2 Inv-loop3 μ-loop3 Inv-loop5 μ-loop5 Inv-loop4 μ-loop4 Inv-loop μ-loop
 add-n c = omega (arith, few (c .before .before .before .before .before .before .before .before .before))
 
-loop3-less :
-    tie.Need-loop3-less
-    Inv-loop2
-    μ-loop2
-    Inv-loop3
-    μ-loop3
-    Inv-loop5
-    μ-loop5
-    Inv-loop4
-    μ-loop4
-    Inv-loop
-    μ-loop
+loop3-less : tie.Need-loop3-less Inv-loop2 μ-loop2 Inv-loop3 μ-loop3 Inv-loop5 μ-loop5 Inv-loop4 μ-loop4 Inv-loop μ-loop
 loop3-less c = omega arith
 
-loop3-again :
-    tie.Need-loop3-again
-    Inv-loop2
-    μ-loop2
-    Inv-loop3
-    μ-loop3
-    Inv-loop5
-    μ-loop5
-    Inv-loop4
-    μ-loop4
-    Inv-loop
-    μ-loop
+loop3-again : tie.Need-loop3-again Inv-loop2 μ-loop2 Inv-loop3 μ-loop3 Inv-loop5 μ-loop5 Inv-loop4 μ-loop4 Inv-loop μ-loop
 loop3-again c = let k = (c .before .before .before .before .before .before .before .before .before) in
     let s = (c .before .before .before .before .before .before .before .before) .loop .s in
     let fit = (c .before .before .before .before .before .before .before .before) .loop .inv .fits in
@@ -1171,18 +401,7 @@ loop3-again c = let k = (c .before .before .before .before .before .before .befo
     (join .came)) in
     (omega arith, r .0, r .1)
 
-loop4-holds :
-    tie.Need-loop4-holds
-    Inv-loop2
-    μ-loop2
-    Inv-loop3
-    μ-loop3
-    Inv-loop5
-    μ-loop5
-    Inv-loop4
-    μ-loop4
-    Inv-loop
-    μ-loop
+loop4-holds : tie.Need-loop4-holds Inv-loop2 μ-loop2 Inv-loop3 μ-loop3 Inv-loop5 μ-loop5 Inv-loop4 μ-loop4 Inv-loop μ-loop
 loop4-holds c = let k = (c .before .before .before .before .before .before .before) in
     let s = (c .before .before .before .before .before .before) .loop .s in
     let w = word (c .before .before .before .before .before .before) in
@@ -1190,228 +409,54 @@ loop4-holds c = let k = (c .before .before .before .before .before .before .befo
     let e : l .n ≡ (c .before .before .before .before .before .before .before .before .before .before) .nodes .result = omega arith in
     (omega arith, l .inv .1 ∙ ap (λ (n : ℕ). movedBelow (img k) w s (s .cycles) (nodesBelow (img k) w s n) 0 0) e)
 
-mul-channel-2 :
-    tie.Need-mul-channel-2
-    Inv-loop2
-    μ-loop2
-    Inv-loop3
-    μ-loop3
-    Inv-loop5
-    μ-loop5
-    Inv-loop4
-    μ-loop4
-    Inv-loop
-    μ-loop
+mul-channel-2 : tie.Need-mul-channel-2 Inv-loop2 μ-loop2 Inv-loop3 μ-loop3 Inv-loop5 μ-loop5 Inv-loop4 μ-loop4 Inv-loop μ-loop
 mul-channel-2 c = omega (arith, within (c .before .before .before .before .before .before .before .before .before) ((c .before) .loop4 .c) (moving c))
 
 element-copy-out-channel-2 :
-    tie.Need-element-copy-out-channel-2
-    Inv-loop2
-    μ-loop2
-    Inv-loop3
-    μ-loop3
-    Inv-loop5
-    μ-loop5
-    Inv-loop4
-    μ-loop4
-    Inv-loop
-    μ-loop
+    tie.Need-element-copy-out-channel-2 Inv-loop2 μ-loop2 Inv-loop3 μ-loop3 Inv-loop5 μ-loop5 Inv-loop4 μ-loop4 Inv-loop μ-loop
 element-copy-out-channel-2 c = omega (arith, within (c .before .before .before .before .before .before .before .before .before) ((c .before) .loop4 .c) (moving c))
 
-cast-from-2 :
-    tie.Need-cast-from-2
-    Inv-loop2
-    μ-loop2
-    Inv-loop3
-    μ-loop3
-    Inv-loop5
-    μ-loop5
-    Inv-loop4
-    μ-loop4
-    Inv-loop
-    μ-loop
+cast-from-2 : tie.Need-cast-from-2 Inv-loop2 μ-loop2 Inv-loop3 μ-loop3 Inv-loop5 μ-loop5 Inv-loop4 μ-loop4 Inv-loop μ-loop
 cast-from-2 c = omega (arith, within (c .before .before .before .before .before .before .before .before .before .before .before) ((c .before .before .before) .loop4 .c) (moving (c .before .before)))
 
-cast-to-2 :
-    tie.Need-cast-to-2
-    Inv-loop2
-    μ-loop2
-    Inv-loop3
-    μ-loop3
-    Inv-loop5
-    μ-loop5
-    Inv-loop4
-    μ-loop4
-    Inv-loop
-    μ-loop
+cast-to-2 : tie.Need-cast-to-2 Inv-loop2 μ-loop2 Inv-loop3 μ-loop3 Inv-loop5 μ-loop5 Inv-loop4 μ-loop4 Inv-loop μ-loop
 cast-to-2 c = omega (arith, within (c .before .before .before .before .before .before .before .before .before .before .before .before) ((c .before .before .before .before) .loop4 .c) (moving (c .before .before .before)))
 
-cast-length-2 :
-    tie.Need-cast-length-2
-    Inv-loop2
-    μ-loop2
-    Inv-loop3
-    μ-loop3
-    Inv-loop5
-    μ-loop5
-    Inv-loop4
-    μ-loop4
-    Inv-loop
-    μ-loop
+cast-length-2 : tie.Need-cast-length-2 Inv-loop2 μ-loop2 Inv-loop3 μ-loop3 Inv-loop5 μ-loop5 Inv-loop4 μ-loop4 Inv-loop μ-loop
 cast-length-2 c = omega (arith, within (c .before .before .before .before .before .before .before .before .before .before .before .before .before) ((c .before .before .before .before .before) .loop4 .c) (moving (c .before .before .before .before)))
 
-mul-node-3 :
-    tie.Need-mul-node-3
-    Inv-loop2
-    μ-loop2
-    Inv-loop3
-    μ-loop3
-    Inv-loop5
-    μ-loop5
-    Inv-loop4
-    μ-loop4
-    Inv-loop
-    μ-loop
+mul-node-3 : tie.Need-mul-node-3 Inv-loop2 μ-loop2 Inv-loop3 μ-loop3 Inv-loop5 μ-loop5 Inv-loop4 μ-loop4 Inv-loop μ-loop
 mul-node-3 c = omega (arith, within (c .before .before .before .before .before .before .before .before .before .before .before .before .before) ((c .before .before .before .before .before) .loop4 .c) (moving (c .before .before .before .before)))
 
-element-copy-out-node-3 :
-    tie.Need-element-copy-out-node-3
-    Inv-loop2
-    μ-loop2
-    Inv-loop3
-    μ-loop3
-    Inv-loop5
-    μ-loop5
-    Inv-loop4
-    μ-loop4
-    Inv-loop
-    μ-loop
+element-copy-out-node-3 : tie.Need-element-copy-out-node-3 Inv-loop2 μ-loop2 Inv-loop3 μ-loop3 Inv-loop5 μ-loop5 Inv-loop4 μ-loop4 Inv-loop μ-loop
 element-copy-out-node-3 c = omega (arith, within (c .before .before .before .before .before .before .before .before .before .before .before .before .before) ((c .before .before .before .before .before) .loop4 .c) (moving (c .before .before .before .before)))
 
-mul-queue-2 :
-    tie.Need-mul-queue-2
-    Inv-loop2
-    μ-loop2
-    Inv-loop3
-    μ-loop3
-    Inv-loop5
-    μ-loop5
-    Inv-loop4
-    μ-loop4
-    Inv-loop
-    μ-loop
+mul-queue-2 : tie.Need-mul-queue-2 Inv-loop2 μ-loop2 Inv-loop3 μ-loop3 Inv-loop5 μ-loop5 Inv-loop4 μ-loop4 Inv-loop μ-loop
 mul-queue-2 c = omega (arith, within (c .before .before .before .before .before .before .before .before .before .before .before .before .before .before) ((c .before .before .before .before .before .before) .loop4 .c) (moving (c .before .before .before .before .before)))
 
-element-copy-out-queue-2 :
-    tie.Need-element-copy-out-queue-2
-    Inv-loop2
-    μ-loop2
-    Inv-loop3
-    μ-loop3
-    Inv-loop5
-    μ-loop5
-    Inv-loop4
-    μ-loop4
-    Inv-loop
-    μ-loop
+element-copy-out-queue-2 : tie.Need-element-copy-out-queue-2 Inv-loop2 μ-loop2 Inv-loop3 μ-loop3 Inv-loop5 μ-loop5 Inv-loop4 μ-loop4 Inv-loop μ-loop
 element-copy-out-queue-2 c = omega (arith, within (c .before .before .before .before .before .before .before .before .before .before .before .before .before .before) ((c .before .before .before .before .before .before) .loop4 .c) (moving (c .before .before .before .before .before)))
 
 element-copy-out-pending-2 :
-    tie.Need-element-copy-out-pending-2
-    Inv-loop2
-    μ-loop2
-    Inv-loop3
-    μ-loop3
-    Inv-loop5
-    μ-loop5
-    Inv-loop4
-    μ-loop4
-    Inv-loop
-    μ-loop
+    tie.Need-element-copy-out-pending-2 Inv-loop2 μ-loop2 Inv-loop3 μ-loop3 Inv-loop5 μ-loop5 Inv-loop4 μ-loop4 Inv-loop μ-loop
 element-copy-out-pending-2 c = omega (arith, within (c .before .before .before .before .before .before .before .before .before .before .before .before .before .before .before) ((c .before .before .before .before .before .before .before) .loop4 .c) (moving (c .before .before .before .before .before .before)))
 
-full-requires-3 :
-    tie.Need-full-requires-3
-    Inv-loop2
-    μ-loop2
-    Inv-loop3
-    μ-loop3
-    Inv-loop5
-    μ-loop5
-    Inv-loop4
-    μ-loop4
-    Inv-loop
-    μ-loop
+full-requires-3 : tie.Need-full-requires-3 Inv-loop2 μ-loop2 Inv-loop3 μ-loop3 Inv-loop5 μ-loop5 Inv-loop4 μ-loop4 Inv-loop μ-loop
 full-requires-3 c κs = tt
 
-mul-first-3 :
-    tie.Need-mul-first-3
-    Inv-loop2
-    μ-loop2
-    Inv-loop3
-    μ-loop3
-    Inv-loop5
-    μ-loop5
-    Inv-loop4
-    μ-loop4
-    Inv-loop
-    μ-loop
+mul-first-3 : tie.Need-mul-first-3 Inv-loop2 μ-loop2 Inv-loop3 μ-loop3 Inv-loop5 μ-loop5 Inv-loop4 μ-loop4 Inv-loop μ-loop
 mul-first-3 c = omega (arith, within (c .before .before .before .before .before .before .before .before .before .before .before .before .before .before .before .before .before .before .before) ((c .before .before .before .before .before .before .before .before .before .before .before) .loop4 .c) (moving (c .before .before .before .before .before .before .before .before .before .before)))
 
-mul-first-4 :
-    tie.Need-mul-first-4
-    Inv-loop2
-    μ-loop2
-    Inv-loop3
-    μ-loop3
-    Inv-loop5
-    μ-loop5
-    Inv-loop4
-    μ-loop4
-    Inv-loop
-    μ-loop
+mul-first-4 : tie.Need-mul-first-4 Inv-loop2 μ-loop2 Inv-loop3 μ-loop3 Inv-loop5 μ-loop5 Inv-loop4 μ-loop4 Inv-loop μ-loop
 mul-first-4 c = omega (arith, within (c .before .before .before .before .before .before .before .before .before .before .before .before .before .before .before .before .before .before .before) ((c .before .before .before .before .before .before .before .before .before .before .before) .loop4 .c) (moving (c .before .before .before .before .before .before .before .before .before .before)))
 
-element-copy-out-first-2 :
-    tie.Need-element-copy-out-first-2
-    Inv-loop2
-    μ-loop2
-    Inv-loop3
-    μ-loop3
-    Inv-loop5
-    μ-loop5
-    Inv-loop4
-    μ-loop4
-    Inv-loop
-    μ-loop
+element-copy-out-first-2 : tie.Need-element-copy-out-first-2 Inv-loop2 μ-loop2 Inv-loop3 μ-loop3 Inv-loop5 μ-loop5 Inv-loop4 μ-loop4 Inv-loop μ-loop
 element-copy-out-first-2 c = omega (arith, within (c .before .before .before .before .before .before .before .before .before .before .before .before .before .before .before .before .before .before .before) ((c .before .before .before .before .before .before .before .before .before .before .before) .loop4 .c) (moving (c .before .before .before .before .before .before .before .before .before .before)))
 
-full-requires-4 :
-    tie.Need-full-requires-4
-    Inv-loop2
-    μ-loop2
-    Inv-loop3
-    μ-loop3
-    Inv-loop5
-    μ-loop5
-    Inv-loop4
-    μ-loop4
-    Inv-loop
-    μ-loop
+full-requires-4 : tie.Need-full-requires-4 Inv-loop2 μ-loop2 Inv-loop3 μ-loop3 Inv-loop5 μ-loop5 Inv-loop4 μ-loop4 Inv-loop μ-loop
 full-requires-4 c κs = tt
 
-loop5-holds :
-    tie.Need-loop5-holds
-    Inv-loop2
-    μ-loop2
-    Inv-loop3
-    μ-loop3
-    Inv-loop5
-    μ-loop5
-    Inv-loop4
-    μ-loop4
-    Inv-loop
-    μ-loop
+loop5-holds : tie.Need-loop5-holds Inv-loop2 μ-loop2 Inv-loop3 μ-loop3 Inv-loop5 μ-loop5 Inv-loop4 μ-loop4 Inv-loop μ-loop
 loop5-holds c = let k = (c .before .before .before .before .before .before .before .before .before .before .before .before .before .before .before .before .before .before .before) in
     let s = (c .before .before .before .before .before .before .before .before .before .before .before .before .before .before .before .before .before .before) .loop .s in
     let fit = (c .before .before .before .before .before .before .before .before .before .before .before .before .before .before .before .before .before .before) .loop .inv .fits in
@@ -1426,284 +471,65 @@ loop5-holds c = let k = (c .before .before .before .before .before .before .befo
       source-read (img k) (net k) s fit i h _ e _ (toZ-ofZ f),
     )
 
-mul-station :
-    tie.Need-mul-station
-    Inv-loop2
-    μ-loop2
-    Inv-loop3
-    μ-loop3
-    Inv-loop5
-    μ-loop5
-    Inv-loop4
-    μ-loop4
-    Inv-loop
-    μ-loop
+mul-station : tie.Need-mul-station Inv-loop2 μ-loop2 Inv-loop3 μ-loop3 Inv-loop5 μ-loop5 Inv-loop4 μ-loop4 Inv-loop μ-loop
 mul-station c = omega (arith, within (c .before .before .before .before .before .before .before .before .before .before .before .before .before .before .before .before .before .before .before .before .before) ((c .before .before .before .before .before .before .before .before .before .before .before .before .before) .loop4 .c) (moving (c .before .before .before .before .before .before .before .before .before .before .before .before)))
 
-add-station :
-    tie.Need-add-station
-    Inv-loop2
-    μ-loop2
-    Inv-loop3
-    μ-loop3
-    Inv-loop5
-    μ-loop5
-    Inv-loop4
-    μ-loop4
-    Inv-loop
-    μ-loop
+add-station : tie.Need-add-station Inv-loop2 μ-loop2 Inv-loop3 μ-loop3 Inv-loop5 μ-loop5 Inv-loop4 μ-loop4 Inv-loop μ-loop
 add-station c = omega (arith, within (c .before .before .before .before .before .before .before .before .before .before .before .before .before .before .before .before .before .before .before .before .before) ((c .before .before .before .before .before .before .before .before .before .before .before .before .before) .loop4 .c) (moving (c .before .before .before .before .before .before .before .before .before .before .before .before)))
 
-mul-station-2 :
-    tie.Need-mul-station-2
-    Inv-loop2
-    μ-loop2
-    Inv-loop3
-    μ-loop3
-    Inv-loop5
-    μ-loop5
-    Inv-loop4
-    μ-loop4
-    Inv-loop
-    μ-loop
+mul-station-2 : tie.Need-mul-station-2 Inv-loop2 μ-loop2 Inv-loop3 μ-loop3 Inv-loop5 μ-loop5 Inv-loop4 μ-loop4 Inv-loop μ-loop
 mul-station-2 c = omega (arith, within (c .before .before .before .before .before .before .before .before .before .before .before .before .before .before .before .before .before .before .before .before .before) ((c .before .before .before .before .before .before .before .before .before .before .before .before .before) .loop4 .c) (moving (c .before .before .before .before .before .before .before .before .before .before .before .before)))
 
-element-copy-out-station :
-    tie.Need-element-copy-out-station
-    Inv-loop2
-    μ-loop2
-    Inv-loop3
-    μ-loop3
-    Inv-loop5
-    μ-loop5
-    Inv-loop4
-    μ-loop4
-    Inv-loop
-    μ-loop
+element-copy-out-station : tie.Need-element-copy-out-station Inv-loop2 μ-loop2 Inv-loop3 μ-loop3 Inv-loop5 μ-loop5 Inv-loop4 μ-loop4 Inv-loop μ-loop
 element-copy-out-station c = omega (arith, within (c .before .before .before .before .before .before .before .before .before .before .before .before .before .before .before .before .before .before .before .before .before) ((c .before .before .before .before .before .before .before .before .before .before .before .before .before) .loop4 .c) (moving (c .before .before .before .before .before .before .before .before .before .before .before .before)))
 
-add-if4 :
-    tie.Need-add-if4
-    Inv-loop2
-    μ-loop2
-    Inv-loop3
-    μ-loop3
-    Inv-loop5
-    μ-loop5
-    Inv-loop4
-    μ-loop4
-    Inv-loop
-    μ-loop
+add-if4 : tie.Need-add-if4 Inv-loop2 μ-loop2 Inv-loop3 μ-loop3 Inv-loop5 μ-loop5 Inv-loop4 μ-loop4 Inv-loop μ-loop
 add-if4 c = omega (arith, within (c .before .before .before .before .before .before .before .before .before .before .before .before .before .before .before .before .before .before .before .before .before .before) ((c .before .before .before .before .before .before .before .before .before .before .before .before .before .before) .loop4 .c) (moving (c .before .before .before .before .before .before .before .before .before .before .before .before .before)))
 
-mul-following :
-    tie.Need-mul-following
-    Inv-loop2
-    μ-loop2
-    Inv-loop3
-    μ-loop3
-    Inv-loop5
-    μ-loop5
-    Inv-loop4
-    μ-loop4
-    Inv-loop
-    μ-loop
+mul-following : tie.Need-mul-following Inv-loop2 μ-loop2 Inv-loop3 μ-loop3 Inv-loop5 μ-loop5 Inv-loop4 μ-loop4 Inv-loop μ-loop
 mul-following c = omega (arith, within (c .before .before .before .before .before .before .before .before .before .before .before .before .before .before .before .before .before .before .before .before .before .before .before) ((c .before .before .before .before .before .before .before .before .before .before .before .before .before .before .before) .loop4 .c) (moving (c .before .before .before .before .before .before .before .before .before .before .before .before .before .before)))
 
-add-following :
-    tie.Need-add-following
-    Inv-loop2
-    μ-loop2
-    Inv-loop3
-    μ-loop3
-    Inv-loop5
-    μ-loop5
-    Inv-loop4
-    μ-loop4
-    Inv-loop
-    μ-loop
+add-following : tie.Need-add-following Inv-loop2 μ-loop2 Inv-loop3 μ-loop3 Inv-loop5 μ-loop5 Inv-loop4 μ-loop4 Inv-loop μ-loop
 add-following c = omega (arith, within (c .before .before .before .before .before .before .before .before .before .before .before .before .before .before .before .before .before .before .before .before .before .before .before) ((c .before .before .before .before .before .before .before .before .before .before .before .before .before .before .before) .loop4 .c) (moving (c .before .before .before .before .before .before .before .before .before .before .before .before .before .before)))
 
-add-following-2 :
-    tie.Need-add-following-2
-    Inv-loop2
-    μ-loop2
-    Inv-loop3
-    μ-loop3
-    Inv-loop5
-    μ-loop5
-    Inv-loop4
-    μ-loop4
-    Inv-loop
-    μ-loop
+add-following-2 : tie.Need-add-following-2 Inv-loop2 μ-loop2 Inv-loop3 μ-loop3 Inv-loop5 μ-loop5 Inv-loop4 μ-loop4 Inv-loop μ-loop
 add-following-2 c = omega (arith, within (c .before .before .before .before .before .before .before .before .before .before .before .before .before .before .before .before .before .before .before .before .before .before .before) ((c .before .before .before .before .before .before .before .before .before .before .before .before .before .before .before) .loop4 .c) (moving (c .before .before .before .before .before .before .before .before .before .before .before .before .before .before)))
 
-mul-following-2 :
-    tie.Need-mul-following-2
-    Inv-loop2
-    μ-loop2
-    Inv-loop3
-    μ-loop3
-    Inv-loop5
-    μ-loop5
-    Inv-loop4
-    μ-loop4
-    Inv-loop
-    μ-loop
+mul-following-2 : tie.Need-mul-following-2 Inv-loop2 μ-loop2 Inv-loop3 μ-loop3 Inv-loop5 μ-loop5 Inv-loop4 μ-loop4 Inv-loop μ-loop
 mul-following-2 c = omega (arith, within (c .before .before .before .before .before .before .before .before .before .before .before .before .before .before .before .before .before .before .before .before .before .before .before) ((c .before .before .before .before .before .before .before .before .before .before .before .before .before .before .before) .loop4 .c) (moving (c .before .before .before .before .before .before .before .before .before .before .before .before .before .before)))
 
 element-copy-out-following :
-    tie.Need-element-copy-out-following
-    Inv-loop2
-    μ-loop2
-    Inv-loop3
-    μ-loop3
-    Inv-loop5
-    μ-loop5
-    Inv-loop4
-    μ-loop4
-    Inv-loop
-    μ-loop
+    tie.Need-element-copy-out-following Inv-loop2 μ-loop2 Inv-loop3 μ-loop3 Inv-loop5 μ-loop5 Inv-loop4 μ-loop4 Inv-loop μ-loop
 element-copy-out-following c = omega (arith, within (c .before .before .before .before .before .before .before .before .before .before .before .before .before .before .before .before .before .before .before .before .before .before .before) ((c .before .before .before .before .before .before .before .before .before .before .before .before .before .before .before) .loop4 .c) (moving (c .before .before .before .before .before .before .before .before .before .before .before .before .before .before)))
 
-full-requires-5 :
-    tie.Need-full-requires-5
-    Inv-loop2
-    μ-loop2
-    Inv-loop3
-    μ-loop3
-    Inv-loop5
-    μ-loop5
-    Inv-loop4
-    μ-loop4
-    Inv-loop
-    μ-loop
+full-requires-5 : tie.Need-full-requires-5 Inv-loop2 μ-loop2 Inv-loop3 μ-loop3 Inv-loop5 μ-loop5 Inv-loop4 μ-loop4 Inv-loop μ-loop
 full-requires-5 c κs = tt
 
-after-requires :
-    tie.Need-after-requires
-    Inv-loop2
-    μ-loop2
-    Inv-loop3
-    μ-loop3
-    Inv-loop5
-    μ-loop5
-    Inv-loop4
-    μ-loop4
-    Inv-loop
-    μ-loop
+after-requires : tie.Need-after-requires Inv-loop2 μ-loop2 Inv-loop3 μ-loop3 Inv-loop5 μ-loop5 Inv-loop4 μ-loop4 Inv-loop μ-loop
 after-requires c κs = tt
 
-mul-next-2 :
-    tie.Need-mul-next-2
-    Inv-loop2
-    μ-loop2
-    Inv-loop3
-    μ-loop3
-    Inv-loop5
-    μ-loop5
-    Inv-loop4
-    μ-loop4
-    Inv-loop
-    μ-loop
+mul-next-2 : tie.Need-mul-next-2 Inv-loop2 μ-loop2 Inv-loop3 μ-loop3 Inv-loop5 μ-loop5 Inv-loop4 μ-loop4 Inv-loop μ-loop
 mul-next-2 c = omega (arith, within (c .before .before .before .before .before .before .before .before .before .before .before .before .before .before .before .before .before .before .before .before .before .before .before .before) ((c .before .before .before .before .before .before .before .before .before .before .before .before .before .before .before .before) .loop4 .c) (moving (c .before .before .before .before .before .before .before .before .before .before .before .before .before .before .before)))
 
-add-next :
-    tie.Need-add-next
-    Inv-loop2
-    μ-loop2
-    Inv-loop3
-    μ-loop3
-    Inv-loop5
-    μ-loop5
-    Inv-loop4
-    μ-loop4
-    Inv-loop
-    μ-loop
+add-next : tie.Need-add-next Inv-loop2 μ-loop2 Inv-loop3 μ-loop3 Inv-loop5 μ-loop5 Inv-loop4 μ-loop4 Inv-loop μ-loop
 add-next c = omega (arith, within (c .before .before .before .before .before .before .before .before .before .before .before .before .before .before .before .before .before .before .before .before .before .before .before .before) ((c .before .before .before .before .before .before .before .before .before .before .before .before .before .before .before .before) .loop4 .c) (moving (c .before .before .before .before .before .before .before .before .before .before .before .before .before .before .before)))
 
-mul-next-3 :
-    tie.Need-mul-next-3
-    Inv-loop2
-    μ-loop2
-    Inv-loop3
-    μ-loop3
-    Inv-loop5
-    μ-loop5
-    Inv-loop4
-    μ-loop4
-    Inv-loop
-    μ-loop
+mul-next-3 : tie.Need-mul-next-3 Inv-loop2 μ-loop2 Inv-loop3 μ-loop3 Inv-loop5 μ-loop5 Inv-loop4 μ-loop4 Inv-loop μ-loop
 mul-next-3 c = omega (arith, within (c .before .before .before .before .before .before .before .before .before .before .before .before .before .before .before .before .before .before .before .before .before .before .before .before) ((c .before .before .before .before .before .before .before .before .before .before .before .before .before .before .before .before) .loop4 .c) (moving (c .before .before .before .before .before .before .before .before .before .before .before .before .before .before .before)))
 
-element-set-from-next-2 :
-    tie.Need-element-set-from-next-2
-    Inv-loop2
-    μ-loop2
-    Inv-loop3
-    μ-loop3
-    Inv-loop5
-    μ-loop5
-    Inv-loop4
-    μ-loop4
-    Inv-loop
-    μ-loop
+element-set-from-next-2 : tie.Need-element-set-from-next-2 Inv-loop2 μ-loop2 Inv-loop3 μ-loop3 Inv-loop5 μ-loop5 Inv-loop4 μ-loop4 Inv-loop μ-loop
 element-set-from-next-2 c = omega (arith, within (c .before .before .before .before .before .before .before .before .before .before .before .before .before .before .before .before .before .before .before .before .before .before .before .before) ((c .before .before .before .before .before .before .before .before .before .before .before .before .before .before .before .before) .loop4 .c) (moving (c .before .before .before .before .before .before .before .before .before .before .before .before .before .before .before)))
 
-link-requires-2 :
-    tie.Need-link-requires-2
-    Inv-loop2
-    μ-loop2
-    Inv-loop3
-    μ-loop3
-    Inv-loop5
-    μ-loop5
-    Inv-loop4
-    μ-loop4
-    Inv-loop
-    μ-loop
+link-requires-2 : tie.Need-link-requires-2 Inv-loop2 μ-loop2 Inv-loop3 μ-loop3 Inv-loop5 μ-loop5 Inv-loop4 μ-loop4 Inv-loop μ-loop
 link-requires-2 c κs = tt
 
-add-j :
-    tie.Need-add-j
-    Inv-loop2
-    μ-loop2
-    Inv-loop3
-    μ-loop3
-    Inv-loop5
-    μ-loop5
-    Inv-loop4
-    μ-loop4
-    Inv-loop
-    μ-loop
+add-j : tie.Need-add-j Inv-loop2 μ-loop2 Inv-loop3 μ-loop3 Inv-loop5 μ-loop5 Inv-loop4 μ-loop4 Inv-loop μ-loop
 add-j c = omega (arith, within (c .before .before .before .before .before .before .before .before .before .before .before .before .before .before .before .before .before .before .before .before .before .before .before .before .before) ((c .before .before .before .before .before .before .before .before .before .before .before .before .before .before .before .before .before) .loop4 .c) (moving (c .before .before .before .before .before .before .before .before .before .before .before .before .before .before .before .before)))
 
-loop5-less :
-    tie.Need-loop5-less
-    Inv-loop2
-    μ-loop2
-    Inv-loop3
-    μ-loop3
-    Inv-loop5
-    μ-loop5
-    Inv-loop4
-    μ-loop4
-    Inv-loop
-    μ-loop
+loop5-less : tie.Need-loop5-less Inv-loop2 μ-loop2 Inv-loop3 μ-loop3 Inv-loop5 μ-loop5 Inv-loop4 μ-loop4 Inv-loop μ-loop
 loop5-less c = omega arith
 
-loop5-again :
-    tie.Need-loop5-again
-    Inv-loop2
-    μ-loop2
-    Inv-loop3
-    μ-loop3
-    Inv-loop5
-    μ-loop5
-    Inv-loop4
-    μ-loop4
-    Inv-loop
-    μ-loop
+loop5-again : tie.Need-loop5-again Inv-loop2 μ-loop2 Inv-loop3 μ-loop3 Inv-loop5 μ-loop5 Inv-loop4 μ-loop4 Inv-loop μ-loop
 loop5-again c = let k = (c .before .before .before .before .before .before .before .before .before .before .before .before .before .before .before .before .before .before .before .before .before .before .before .before .before) in
     let s = (c .before .before .before .before .before .before .before .before .before .before .before .before .before .before .before .before .before .before .before .before .before .before .before .before) .loop .s in
     let fit = (c .before .before .before .before .before .before .before .before .before .before .before .before .before .before .before .before .before .before .before .before .before .before .before .before) .loop .inv .fits in
@@ -1727,158 +553,37 @@ loop5-again c = let k = (c .before .before .before .before .before .before .befo
       link-read (img k) (net k) s fit i h _ e (l .j) inside (c .link2 .result) (c .link2 .ensures),
     )
 
-array-read-takes :
-    tie.Need-array-read-takes
-    Inv-loop2
-    μ-loop2
-    Inv-loop3
-    μ-loop3
-    Inv-loop5
-    μ-loop5
-    Inv-loop4
-    μ-loop4
-    Inv-loop
-    μ-loop
+array-read-takes : tie.Need-array-read-takes Inv-loop2 μ-loop2 Inv-loop3 μ-loop3 Inv-loop5 μ-loop5 Inv-loop4 μ-loop4 Inv-loop μ-loop
 array-read-takes c = omega (arith, within (c .before .before .before .before .before .before .before .before .before .before .before .before .before .before .before .before .before .before .before .before .before) ((c .before .before .before .before .before .before .before .before .before .before .before .before .before) .loop4 .c) (moving (c .before .before .before .before .before .before .before .before .before .before .before .before)))
 
-after-requires-2 :
-    tie.Need-after-requires-2
-    Inv-loop2
-    μ-loop2
-    Inv-loop3
-    μ-loop3
-    Inv-loop5
-    μ-loop5
-    Inv-loop4
-    μ-loop4
-    Inv-loop
-    μ-loop
+after-requires-2 : tie.Need-after-requires-2 Inv-loop2 μ-loop2 Inv-loop3 μ-loop3 Inv-loop5 μ-loop5 Inv-loop4 μ-loop4 Inv-loop μ-loop
 after-requires-2 c κs = tt
 
-mul-next-4 :
-    tie.Need-mul-next-4
-    Inv-loop2
-    μ-loop2
-    Inv-loop3
-    μ-loop3
-    Inv-loop5
-    μ-loop5
-    Inv-loop4
-    μ-loop4
-    Inv-loop
-    μ-loop
+mul-next-4 : tie.Need-mul-next-4 Inv-loop2 μ-loop2 Inv-loop3 μ-loop3 Inv-loop5 μ-loop5 Inv-loop4 μ-loop4 Inv-loop μ-loop
 mul-next-4 c = omega (arith, within (c .before .before .before .before .before .before .before .before .before .before .before .before .before .before .before .before .before .before .before .before .before .before .before .before) ((c .before .before .before .before .before .before .before .before .before .before .before .before .before .before .before .before) .loop4 .c) (moving (c .before .before .before .before .before .before .before .before .before .before .before .before .before .before .before)))
 
-element-set-from-next-3 :
-    tie.Need-element-set-from-next-3
-    Inv-loop2
-    μ-loop2
-    Inv-loop3
-    μ-loop3
-    Inv-loop5
-    μ-loop5
-    Inv-loop4
-    μ-loop4
-    Inv-loop
-    μ-loop
+element-set-from-next-3 : tie.Need-element-set-from-next-3 Inv-loop2 μ-loop2 Inv-loop3 μ-loop3 Inv-loop5 μ-loop5 Inv-loop4 μ-loop4 Inv-loop μ-loop
 element-set-from-next-3 c = omega (arith, within (c .before .before .before .before .before .before .before .before .before .before .before .before .before .before .before .before .before .before .before .before .before .before .before .before) ((c .before .before .before .before .before .before .before .before .before .before .before .before .before .before .before .before) .loop4 .c) (moving (c .before .before .before .before .before .before .before .before .before .before .before .before .before .before .before)))
 
-array-read-pending-after :
-    tie.Need-array-read-pending-after
-    Inv-loop2
-    μ-loop2
-    Inv-loop3
-    μ-loop3
-    Inv-loop5
-    μ-loop5
-    Inv-loop4
-    μ-loop4
-    Inv-loop
-    μ-loop
+array-read-pending-after : tie.Need-array-read-pending-after Inv-loop2 μ-loop2 Inv-loop3 μ-loop3 Inv-loop5 μ-loop5 Inv-loop4 μ-loop4 Inv-loop μ-loop
 array-read-pending-after c = omega (arith, within (c .before .before .before .before .before .before .before .before .before .before .before .before .before .before .before .before .before .before .before .before .before .before .before) ((c .before .before .before .before .before .before .before .before .before .before .before .before .before .before .before) .loop4 .c) (moving (c .before .before .before .before .before .before .before .before .before .before .before .before .before .before)))
 
-pending-after-requires :
-    tie.Need-pending-after-requires
-    Inv-loop2
-    μ-loop2
-    Inv-loop3
-    μ-loop3
-    Inv-loop5
-    μ-loop5
-    Inv-loop4
-    μ-loop4
-    Inv-loop
-    μ-loop
+pending-after-requires : tie.Need-pending-after-requires Inv-loop2 μ-loop2 Inv-loop3 μ-loop3 Inv-loop5 μ-loop5 Inv-loop4 μ-loop4 Inv-loop μ-loop
 pending-after-requires c κs = tt
 
-mark-requires :
-    tie.Need-mark-requires
-    Inv-loop2
-    μ-loop2
-    Inv-loop3
-    μ-loop3
-    Inv-loop5
-    μ-loop5
-    Inv-loop4
-    μ-loop4
-    Inv-loop
-    μ-loop
+mark-requires : tie.Need-mark-requires Inv-loop2 μ-loop2 Inv-loop3 μ-loop3 Inv-loop5 μ-loop5 Inv-loop4 μ-loop4 Inv-loop μ-loop
 mark-requires c κs = tt
 
-element-write-s :
-    tie.Need-element-write-s
-    Inv-loop2
-    μ-loop2
-    Inv-loop3
-    μ-loop3
-    Inv-loop5
-    μ-loop5
-    Inv-loop4
-    μ-loop4
-    Inv-loop
-    μ-loop
+element-write-s : tie.Need-element-write-s Inv-loop2 μ-loop2 Inv-loop3 μ-loop3 Inv-loop5 μ-loop5 Inv-loop4 μ-loop4 Inv-loop μ-loop
 element-write-s c = omega (arith, within (c .before .before .before .before .before .before .before .before .before .before .before .before .before .before .before .before .before .before .before .before .before .before .before .before .before) ((c .before .before .before .before .before .before .before .before .before .before .before .before .before .before .before .before .before) .loop4 .c) (moving (c .before .before .before .before .before .before .before .before .before .before .before .before .before .before .before .before)))
 
-add-c-2 :
-    tie.Need-add-c-2
-    Inv-loop2
-    μ-loop2
-    Inv-loop3
-    μ-loop3
-    Inv-loop5
-    μ-loop5
-    Inv-loop4
-    μ-loop4
-    Inv-loop
-    μ-loop
+add-c-2 : tie.Need-add-c-2 Inv-loop2 μ-loop2 Inv-loop3 μ-loop3 Inv-loop5 μ-loop5 Inv-loop4 μ-loop4 Inv-loop μ-loop
 add-c-2 c = omega (arith, within (c .before .before .before .before .before .before .before .before .before .before .before .before .before .before .before .before .before .before .before .before .before .before .before .before .before) ((c .before .before .before .before .before .before .before .before .before .before .before .before .before .before .before .before .before) .loop4 .c) (moving (c .before .before .before .before .before .before .before .before .before .before .before .before .before .before .before .before)))
 
-loop4-less :
-    tie.Need-loop4-less
-    Inv-loop2
-    μ-loop2
-    Inv-loop3
-    μ-loop3
-    Inv-loop5
-    μ-loop5
-    Inv-loop4
-    μ-loop4
-    Inv-loop
-    μ-loop
+loop4-less : tie.Need-loop4-less Inv-loop2 μ-loop2 Inv-loop3 μ-loop3 Inv-loop5 μ-loop5 Inv-loop4 μ-loop4 Inv-loop μ-loop
 loop4-less c = omega arith
 
-loop4-again :
-    tie.Need-loop4-again
-    Inv-loop2
-    μ-loop2
-    Inv-loop3
-    μ-loop3
-    Inv-loop5
-    μ-loop5
-    Inv-loop4
-    μ-loop4
-    Inv-loop
-    μ-loop
+loop4-again : tie.Need-loop4-again Inv-loop2 μ-loop2 Inv-loop3 μ-loop3 Inv-loop5 μ-loop5 Inv-loop4 μ-loop4 Inv-loop μ-loop
 loop4-again c = let k = (c .before .before .before .before .before .before .before .before .before .before .before .before .before .before .before .before .before .before .before .before .before .before .before .before .before) in
     let s = (c .before .before .before .before .before .before .before .before .before .before .before .before .before .before .before .before .before .before .before .before .before .before .before .before) .loop .s in
     let fit = (c .before .before .before .before .before .before .before .before .before .before .before .before .before .before .before .before .before .before .before .before .before .before .before .before) .loop .inv .fits in
@@ -1913,60 +618,16 @@ loop4-again c = let k = (c .before .before .before .before .before .before .befo
           ∙ mark-read (img k) (net k) s fit i h _ e w _ _ stop (ends .1)),
     )
 
-add-s :
-    tie.Need-add-s
-    Inv-loop2
-    μ-loop2
-    Inv-loop3
-    μ-loop3
-    Inv-loop5
-    μ-loop5
-    Inv-loop4
-    μ-loop4
-    Inv-loop
-    μ-loop
+add-s : tie.Need-add-s Inv-loop2 μ-loop2 Inv-loop3 μ-loop3 Inv-loop5 μ-loop5 Inv-loop4 μ-loop4 Inv-loop μ-loop
 add-s c = omega (arith, (c .before .before .before .before .before .before .before .before) .loop .inv .count)
 
-add-t :
-    tie.Need-add-t
-    Inv-loop2
-    μ-loop2
-    Inv-loop3
-    μ-loop3
-    Inv-loop5
-    μ-loop5
-    Inv-loop4
-    μ-loop4
-    Inv-loop
-    μ-loop
+add-t : tie.Need-add-t Inv-loop2 μ-loop2 Inv-loop3 μ-loop3 Inv-loop5 μ-loop5 Inv-loop4 μ-loop4 Inv-loop μ-loop
 add-t c = omega arith
 
-loop-less :
-    tie.Need-loop-less
-    Inv-loop2
-    μ-loop2
-    Inv-loop3
-    μ-loop3
-    Inv-loop5
-    μ-loop5
-    Inv-loop4
-    μ-loop4
-    Inv-loop
-    μ-loop
+loop-less : tie.Need-loop-less Inv-loop2 μ-loop2 Inv-loop3 μ-loop3 Inv-loop5 μ-loop5 Inv-loop4 μ-loop4 Inv-loop μ-loop
 loop-less c = omega arith
 
-loop-again :
-    tie.Need-loop-again
-    Inv-loop2
-    μ-loop2
-    Inv-loop3
-    μ-loop3
-    Inv-loop5
-    μ-loop5
-    Inv-loop4
-    μ-loop4
-    Inv-loop
-    μ-loop
+loop-again : tie.Need-loop-again Inv-loop2 μ-loop2 Inv-loop3 μ-loop3 Inv-loop5 μ-loop5 Inv-loop4 μ-loop4 Inv-loop μ-loop
 loop-again c = let k = (c .before .before .before .before .before .before .before .before .before) in
     let s = (c .before .before .before .before .before .before .before .before) .loop .s in
     let made = (c .before .before .before .before .before .before .before .before) .loop .inv in
@@ -1988,18 +649,7 @@ loop-again c = let k = (c .before .before .before .before .before .before .befor
       count = omega (arith, made .count);
     }
 
-returns :
-    tie.Need-returns
-    Inv-loop2
-    μ-loop2
-    Inv-loop3
-    μ-loop3
-    Inv-loop5
-    μ-loop5
-    Inv-loop4
-    μ-loop4
-    Inv-loop
-    μ-loop
+returns : tie.Need-returns Inv-loop2 μ-loop2 Inv-loop3 μ-loop3 Inv-loop5 μ-loop5 Inv-loop4 μ-loop4 Inv-loop μ-loop
 returns c = let l = (c .before) .loop in
     let words = (c .before .before .before .before .before .before .before .before) .args .words .now in
     let e : l .t ≡ length words = omega (arith, l .inv .done) in
@@ -2008,17 +658,7 @@ returns c = let l = (c .before) .loop in
 pub cycles-spec : {M : Type 1} → statement M
 cycles-spec =
     tie.close
-    (tie.spec
-    Inv-loop2
-    μ-loop2
-    Inv-loop3
-    μ-loop3
-    Inv-loop5
-    μ-loop5
-    Inv-loop4
-    μ-loop4
-    Inv-loop
-    μ-loop
+    (tie.spec Inv-loop2 μ-loop2 Inv-loop3 μ-loop3 Inv-loop5 μ-loop5 Inv-loop4 μ-loop4 Inv-loop μ-loop
     nodes-requires
     cast-nodes
     channels-requires
