@@ -1,29 +1,27 @@
 -- What each way out of a step and of a run answers, and which cycles a run makes. Assumes nothing.
 use mathlib.Core.Bool.{Bool, true, false, not, _||_, true≢false}
 use mathlib.Core.List.{List, [], _∷_, _++_}
-use mathlib.Core.Logic.{⊎-elim}
 use mathlib.Core.Path.{_≡_, refl, sym, ap, _∙_}
 use Prim.Native.Nat.{ℕ, zero, suc, _+_, _<_, _≤_}
 use native.Mathlib.Nat.{add-zero, zero-add}
 use native.Mathlib.Numerals.{add-one}
 use native.Mathlib.Omega.{arith}
-use borrow.Author.Tests.{eq-eqb, ne-eqb, eqb-true, lt-ltb, le-ltb, ltb-false, not-false}
+use borrow.Author.Tests.{eq-eqb, ne-eqb, ltb-false, not-false}
 use lib.Dec.{eqb, ltb}
 use lib.IntN.{ℤ}
 use lib.ListN.{length, drop, take, getD, drop-of-length-le}
 use lib.Seq.{drop-cons}
-use Rattle.laws.specs.Cases.{or-left, or-right, true-or-false}
+use Rattle.laws.specs.Cases.{or-left, or-right}
 use Rattle.laws.specs.Choice.{_if_else_}
 use Rattle.laws.specs.ChoiceLaws.{past, past-number}
 use Rattle.netlist.specs.Image.{nodes, channels}
 use Rattle.netlist.specs.Judge.{judge}
 use Rattle.engine.specs.declared.Ran.{Ran}
-use Rattle.engine.specs.declared.State.{State}
-use Rattle.engine.specs.declared.Stepped.{Stepped}
+use Rattle.state.specs.declared.State.{State}
 use Rattle.engine.specs.declared.Taken.{Taken}
-use Rattle.engine.specs.State.{stateOf}
-use Rattle.engine.specs.Cycle.{stateAfter, after, lettersOf, valuesOf}
-use Rattle.engine.specs.Fits.{fits}
+use Rattle.state.specs.State.{stateOf}
+use Rattle.cycle.specs.Cycle.{stateAfter, after, lettersOf, valuesOf}
+use Rattle.state.specs.Fits.{fits}
 use Rattle.engine.specs.Taken.{stateNumber, takeMore, takenFrom, takenAfter}
 use Rattle.engine.specs.Answer.{setsAbove, stepNumber, stepOf, stepAnswer, lettersWritten, valuesWritten, stepMore, ranFrom, runAnswer}
 

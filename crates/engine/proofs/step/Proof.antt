@@ -7,14 +7,14 @@ use Rattle.laws.specs.Table.{tableOver}
 use Rattle.netlist.specs.Image.{channels}
 use Rattle.netlist.specs.Accepted.{Accepted}
 use Rattle.netlist.specs.AcceptedLaws.{accepted}
-use Rattle.engine.specs.declared.State.{State}
+use Rattle.state.specs.declared.State.{State}
 use Rattle.engine.specs.declared.Stepped.{Stepped}
-use Rattle.engine.specs.Cycle.{after, lettersOf, valuesOf}
-use Rattle.engine.specs.Fitting.{Fitting}
-use Rattle.engine.specs.FitsLaws.{fitting}
+use Rattle.cycle.specs.Cycle.{after, lettersOf, valuesOf}
+use Rattle.state.specs.Fitting.{Fitting}
+use Rattle.state.specs.FitsLaws.{fitting}
 use Rattle.engine.specs.Answer.{stepOf}
 use Rattle.engine.specs.AnswerLaws.{state-ok, number-ok, step-none, step-made}
-use Rattle.engine.proofs.Shape.{shaped}
+use Rattle.state.proofs.Shape.{shaped}
 use borrow.Author.Needs.{needs}
 use Rattle.engine.proofs.step.Statement.{statement}
 use Rattle.engine.proofs.step.Tie as tie
