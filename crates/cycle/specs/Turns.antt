@@ -209,7 +209,8 @@ module _ (img : List ℕ) (a : Accepted img) (s : State) (fit : Fitting img s) (
         → fired ≡ fires img w s (to img c) → fired || (link .valid && not stop) ≡ false → queueNext img w s c ≡ getD (s .queues) c noQueue
     queue-idle link stop fired p q r z =
         sym (queue-read link stop fired p q r)
-        ∙ after-idle (getD (s .queues) c noQueue) link stop fired (or-left fired (link .valid && not stop) z) (or-right fired (link .valid && not stop) z)
+        ∙ after-idle (getD (s .queues) c noQueue) link stop fired (or-left fired (link .valid && not stop) z)
+        (or-right fired (link .valid && not stop) z)
 
     -- the channel is done
     pub channel-turn :

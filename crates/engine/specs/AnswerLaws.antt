@@ -61,7 +61,8 @@ module _ (img : List ℕ) (s : State) where
     number-rest :
         stateNumber img s ≡ 0
         → stepNumber img s word letters values ≡
-        (22 if eqb (s .cycles) 1000000 else 12 if setsAbove (nodes img) word else 13 if ltb letters (channels img) || ltb values (channels img) else 0)
+        (22 if eqb (s .cycles) 1000000 else 12 if setsAbove (nodes img) word else 13 if ltb letters (channels img) || ltb values (channels img)
+        else 0)
     unfolding stepNumber
     number-rest e = let r = state-ok e in rw (r .0, r .1)
 
@@ -80,7 +81,8 @@ module _ (img : List ℕ) (s : State) where
     -- 0 says that nothing stands in the way of a cycle
     pub number-ok :
         stepNumber img s word letters values ≡ 0
-        → (stateNumber img s ≡ 0) × (s .cycles ≡ 1000000 → ⊥) × (setsAbove (nodes img) word ≡ false) × (channels img ≤ letters) × (channels img ≤ values)
+        → (stateNumber img s ≡ 0) × (s .cycles ≡ 1000000 → ⊥) × (setsAbove (nodes img) word ≡ false) × (channels img ≤ letters)
+        × (channels img ≤ values)
     unfolding stepNumber
     number-ok e =
         let short = ltb letters (channels img) in
@@ -182,7 +184,8 @@ ran-taken img (word ∷ words) s = go (eqb (s .cycles) 1000000) (setsAbove (node
     t = takenFrom (nodes img) (suc (s .cycles)) words
 
     go :
-        (a b : Bool) → record { steps = t .steps; number = t .number; state = after img (stateAfter img word s) (take (t .steps) words) } ≡ ranFrom img (stateAfter img word s) words
+        (a b : Bool) → record { steps = t .steps; number = t .number; state = after img (stateAfter img word s) (take (t .steps) words) }
+        ≡ ranFrom img (stateAfter img word s) words
         → let u = record { steps = 0; number = 22 } if a else record { steps = 0; number = 12 } if b else takeMore t in
         record { steps = u .steps; number = u .number; state = after img s (take (u .steps) (word ∷ words)) } ≡
         (record { steps = 0; number = 22; state = s } if a else record { steps = 0; number = 12; state = s } if b else
@@ -200,7 +203,8 @@ module _ (img : List ℕ) (s : State) (words : List ℕ) where
       first :
           (j : ℕ) (f : Bool) → ((j if not (eqb j 0) else 21 if not f else 0) ≡ 0 → ⊥)
           → _≡_ {A = Ran} (record { steps = 0; number = j if not (eqb j 0) else 21 if not f else 0; state = s })
-          (record { steps = 0; number = j; state = s } if not (eqb j 0) else record { steps = 0; number = 21; state = s } if not f else ranFrom img s words)
+          (record { steps = 0; number = j; state = s } if not (eqb j 0)
+          else record { steps = 0; number = 21; state = s } if not f else ranFrom img s words)
       first zero false n = refl
       first zero true n = absurd (n refl)
       first (suc j) f n = rw (ne-eqb (suc j) 0 (λ e. omega arith))

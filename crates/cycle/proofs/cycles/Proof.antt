@@ -89,7 +89,8 @@ img c = c .before .before .before .before .before .before .args .image .now
 net : (c : tie.After-kinds-of Inv-loop2 μ-loop2 Inv-loop3 μ-loop3 Inv-loop5 μ-loop5 Inv-loop4 μ-loop4 Inv-loop μ-loop) → Accepted (img c)
 net c = c .before .before .before .before .before .before .pre .0
 
-few : (c : tie.After-kinds-of Inv-loop2 μ-loop2 Inv-loop3 μ-loop3 Inv-loop5 μ-loop5 Inv-loop4 μ-loop4 Inv-loop μ-loop) → (c .before .before .channels .result ≤ 96) × (c .before .before .before .nodes .result ≤ 64)
+few : (c : tie.After-kinds-of Inv-loop2 μ-loop2 Inv-loop3 μ-loop3 Inv-loop5 μ-loop5 Inv-loop4 μ-loop4 Inv-loop μ-loop)
+    → (c .before .before .channels .result ≤ 96) × (c .before .before .before .nodes .result ≤ 64)
 few c = (
   omega (arith, c .before .before .channels .ensures, net c .few-channels),
   omega (arith, c .before .before .before .nodes .ensures, net c .few-nodes),
@@ -100,33 +101,49 @@ abbrev readAt : tie.After-kinds-of Inv-loop2 μ-loop2 Inv-loop3 μ-loop3 Inv-loo
 readAt c i = getD (c .before .wires-of .result .at) i (record { from = 0; to = 0; port = 0; stations = 0; depth = 0 })
 
 wire :
-    (c : tie.After-kinds-of Inv-loop2 μ-loop2 Inv-loop3 μ-loop3 Inv-loop5 μ-loop5 Inv-loop4 μ-loop4 Inv-loop μ-loop) (i : ℕ) → i < c .before .before .channels .result
+    (c : tie.After-kinds-of Inv-loop2 μ-loop2 Inv-loop3 μ-loop3 Inv-loop5 μ-loop5 Inv-loop4 μ-loop4 Inv-loop μ-loop) (i : ℕ)
+    → i < c .before .before .channels .result
     → readAt c i ≡ channelAt (img c) i
 wire c i h =
     let k : i < channels (img c) = omega (arith, c .before .before .channels .ensures) in
     wire-read (img c) i k (c .before .wires-of .result) (c .before .wires-of .ensures)
 
-within :
-    (c : tie.After-kinds-of Inv-loop2 μ-loop2 Inv-loop3 μ-loop3 Inv-loop5 μ-loop5 Inv-loop4 μ-loop4 Inv-loop μ-loop) (i : ℕ) → i < c .before .before .channels .result
-    → let w = readAt c i in
-    (i < 96) × (w .from < 64) × (w .to < 64) × (w .port < 3) × (w .stations ≤ 8)
+-- a channel's number and its fields are indices
+abbrev Within : ℕ → Wire → Type 0
+Within i w = (i < 96) × (w .from < 64) × (w .to < 64) × (w .port < 3) × (w .stations ≤ 8)
+
+within : (c : tie.After-kinds-of Inv-loop2 μ-loop2 Inv-loop3 μ-loop3 Inv-loop5 μ-loop5 Inv-loop4 μ-loop4 Inv-loop μ-loop) (i : ℕ)
+    → i < c .before .before .channels .result
+    → Within i (readAt c i)
 within c i h =
     let k : i < channels (img c) = omega (arith, c .before .before .channels .ensures) in
     let b = wire-within (img c) (net c) i k _ (wire c i h) in
     (omega (arith, few c), b .0, b .1, b .2, b .3)
 
 -- the channel that is scanned, or moved, is one of the image's
-scanned : (c : tie.In-loop2 Inv-loop2 μ-loop2 Inv-loop3 μ-loop3 Inv-loop5 μ-loop5 Inv-loop4 μ-loop4 Inv-loop μ-loop) → c .before .loop2 .c < (c .before .before .before .before .before .before .before) .channels .result
+scanned : (c : tie.In-loop2 Inv-loop2 μ-loop2 Inv-loop3 μ-loop3 Inv-loop5 μ-loop5 Inv-loop4 μ-loop4 Inv-loop μ-loop) → c .before .loop2 .c <
+    (c .before .before .before .before .before .before .before) .channels .result
 scanned c = omega arith
 
-moving : (c : tie.In-loop4 Inv-loop2 μ-loop2 Inv-loop3 μ-loop3 Inv-loop5 μ-loop5 Inv-loop4 μ-loop4 Inv-loop μ-loop) → c .before .loop4 .c < (c .before .before .before .before .before .before .before .before .before .before .before) .channels .result
+moving : (c : tie.In-loop4 Inv-loop2 μ-loop2 Inv-loop3 μ-loop3 Inv-loop5 μ-loop5 Inv-loop4 μ-loop4 Inv-loop μ-loop) → c .before .loop4 .c <
+    (c .before .before .before .before .before .before .before .before .before .before .before) .channels .result
 moving c = omega arith
 
-there : (c : tie.After-kinds-of Inv-loop2 μ-loop2 Inv-loop3 μ-loop3 Inv-loop5 μ-loop5 Inv-loop4 μ-loop4 Inv-loop μ-loop) (i : ℕ) → i < c .before .before .channels .result → i < channels (img c)
+scan-within : (c : tie.In-loop2 Inv-loop2 μ-loop2 Inv-loop3 μ-loop3 Inv-loop5 μ-loop5 Inv-loop4 μ-loop4 Inv-loop μ-loop)
+    → Within (c .before .loop2 .c) (readAt (c .before .before .before .before .before) (c .before .loop2 .c))
+scan-within c = within (c .before .before .before .before .before) (c .before .loop2 .c) (scanned c)
+
+move-within : (c : tie.In-loop4 Inv-loop2 μ-loop2 Inv-loop3 μ-loop3 Inv-loop5 μ-loop5 Inv-loop4 μ-loop4 Inv-loop μ-loop)
+    → Within (c .before .loop4 .c) (readAt (c .before .before .before .before .before .before .before .before .before) (c .before .loop4 .c))
+move-within c = within (c .before .before .before .before .before .before .before .before .before) (c .before .loop4 .c) (moving c)
+
+there : (c : tie.After-kinds-of Inv-loop2 μ-loop2 Inv-loop3 μ-loop3 Inv-loop5 μ-loop5 Inv-loop4 μ-loop4 Inv-loop μ-loop) (i : ℕ)
+    → i < c .before .before .channels .result → i < channels (img c)
 there c i h = omega (arith, c .before .before .channels .ensures)
 
 -- the first place of a row
-first-place : (s : State) (i : ℕ) → holdsTwo (held (getD (s .stations) (8 * i) noStation)) ≡ holdsTwo (held (getD (s .stations) (8 * i + 0) noStation))
+first-place : (s : State) (i : ℕ) → holdsTwo (held (getD (s .stations) (8 * i) noStation)) ≡ holdsTwo
+    (held (getD (s .stations) (8 * i + 0) noStation))
 first-place s i = ap (λ (n : ℕ). holdsTwo (held (getD (s .stations) n noStation))) (sym (add-zero (8 * i)))
 
 -- the word of the cycle
@@ -153,7 +170,14 @@ kinds-of-requires c κs = omega (arith, (c .before .before) .nodes .ensures, (c 
 
 loop-holds : tie.Need-loop-holds Inv-loop2 μ-loop2 Inv-loop3 μ-loop3 Inv-loop5 μ-loop5 Inv-loop4 μ-loop4 Inv-loop μ-loop
 unfolding after
-loop-holds c = record { done = omega arith; state = refl; fits = (c .before .before .before .before .before .before) .pre .1 .0; count = omega (arith, (c .before .before .before .before .before .before) .pre .1 .1) }
+loop-holds c =
+    record {
+      done = omega arith;
+      state = refl;
+      fits = (c .before .before .before .before .before .before) .pre .1 .0;
+      count = omega
+          (arith, (c .before .before .before .before .before .before) .pre .1 .1);
+    }
 
 mul-word : tie.Need-mul-word Inv-loop2 μ-loop2 Inv-loop3 μ-loop3 Inv-loop5 μ-loop5 Inv-loop4 μ-loop4 Inv-loop μ-loop
 mul-word c = omega arith
@@ -166,64 +190,65 @@ unfolding starvedBelow broughtBelow blockedBelow anyBelow portsBelow table
 loop2-holds c = (omega arith, refl, refl, refl)
 
 mul-channel : tie.Need-mul-channel Inv-loop2 μ-loop2 Inv-loop3 μ-loop3 Inv-loop5 μ-loop5 Inv-loop4 μ-loop4 Inv-loop μ-loop
-mul-channel c = omega (arith, within (c .before .before .before .before .before) ((c .before) .loop2 .c) (scanned c))
+mul-channel c = omega (arith, scan-within c)
 
 element-copy-out-channel : tie.Need-element-copy-out-channel Inv-loop2 μ-loop2 Inv-loop3 μ-loop3 Inv-loop5 μ-loop5 Inv-loop4 μ-loop4 Inv-loop μ-loop
-element-copy-out-channel c = omega (arith, within (c .before .before .before .before .before) ((c .before) .loop2 .c) (scanned c))
+element-copy-out-channel c = omega (arith, scan-within c)
 
 cast-from : tie.Need-cast-from Inv-loop2 μ-loop2 Inv-loop3 μ-loop3 Inv-loop5 μ-loop5 Inv-loop4 μ-loop4 Inv-loop μ-loop
-cast-from c = omega (arith, within (c .before .before .before .before .before .before .before) ((c .before .before .before) .loop2 .c) (scanned (c .before .before)))
+cast-from c = omega (arith, scan-within (c .before .before))
 
 cast-to : tie.Need-cast-to Inv-loop2 μ-loop2 Inv-loop3 μ-loop3 Inv-loop5 μ-loop5 Inv-loop4 μ-loop4 Inv-loop μ-loop
-cast-to c = omega (arith, within (c .before .before .before .before .before .before .before .before) ((c .before .before .before .before) .loop2 .c) (scanned (c .before .before .before)))
+cast-to c = omega (arith, scan-within (c .before .before .before))
 
 cast-length : tie.Need-cast-length Inv-loop2 μ-loop2 Inv-loop3 μ-loop3 Inv-loop5 μ-loop5 Inv-loop4 μ-loop4 Inv-loop μ-loop
-cast-length c = omega (arith, within (c .before .before .before .before .before .before .before .before .before) ((c .before .before .before .before .before) .loop2 .c) (scanned (c .before .before .before .before)))
+cast-length c = omega (arith, scan-within (c .before .before .before .before))
 
 mul-node : tie.Need-mul-node Inv-loop2 μ-loop2 Inv-loop3 μ-loop3 Inv-loop5 μ-loop5 Inv-loop4 μ-loop4 Inv-loop μ-loop
-mul-node c = omega (arith, within (c .before .before .before .before .before .before .before .before .before) ((c .before .before .before .before .before) .loop2 .c) (scanned (c .before .before .before .before)))
+mul-node c = omega (arith, scan-within (c .before .before .before .before))
 
 element-copy-out-node : tie.Need-element-copy-out-node Inv-loop2 μ-loop2 Inv-loop3 μ-loop3 Inv-loop5 μ-loop5 Inv-loop4 μ-loop4 Inv-loop μ-loop
-element-copy-out-node c = omega (arith, within (c .before .before .before .before .before .before .before .before .before) ((c .before .before .before .before .before) .loop2 .c) (scanned (c .before .before .before .before)))
+element-copy-out-node c = omega (arith, scan-within (c .before .before .before .before))
 
 mul-queue : tie.Need-mul-queue Inv-loop2 μ-loop2 Inv-loop3 μ-loop3 Inv-loop5 μ-loop5 Inv-loop4 μ-loop4 Inv-loop μ-loop
-mul-queue c = omega (arith, within (c .before .before .before .before .before .before .before .before .before .before) ((c .before .before .before .before .before .before) .loop2 .c) (scanned (c .before .before .before .before .before)))
+mul-queue c = omega (arith, scan-within (c .before .before .before .before .before))
 
 element-copy-out-queue : tie.Need-element-copy-out-queue Inv-loop2 μ-loop2 Inv-loop3 μ-loop3 Inv-loop5 μ-loop5 Inv-loop4 μ-loop4 Inv-loop μ-loop
-element-copy-out-queue c = omega (arith, within (c .before .before .before .before .before .before .before .before .before .before) ((c .before .before .before .before .before .before) .loop2 .c) (scanned (c .before .before .before .before .before)))
+element-copy-out-queue c = omega (arith, scan-within (c .before .before .before .before .before))
 
 element-copy-out-pending : tie.Need-element-copy-out-pending Inv-loop2 μ-loop2 Inv-loop3 μ-loop3 Inv-loop5 μ-loop5 Inv-loop4 μ-loop4 Inv-loop μ-loop
-element-copy-out-pending c = omega (arith, within (c .before .before .before .before .before .before .before .before .before .before .before) ((c .before .before .before .before .before .before .before) .loop2 .c) (scanned (c .before .before .before .before .before .before)))
+element-copy-out-pending c = omega (arith, scan-within (c .before .before .before .before .before .before))
 
 full-requires : tie.Need-full-requires Inv-loop2 μ-loop2 Inv-loop3 μ-loop3 Inv-loop5 μ-loop5 Inv-loop4 μ-loop4 Inv-loop μ-loop
 full-requires c κs = tt
 
 mul-last : tie.Need-mul-last Inv-loop2 μ-loop2 Inv-loop3 μ-loop3 Inv-loop5 μ-loop5 Inv-loop4 μ-loop4 Inv-loop μ-loop
-mul-last c = omega (arith, within (c .before .before .before .before .before .before .before .before .before .before .before .before .before .before .before) ((c .before .before .before .before .before .before .before .before .before .before .before) .loop2 .c) (scanned (c .before .before .before .before .before .before .before .before .before .before)))
+mul-last c = omega (arith, scan-within (c .before .before .before .before .before .before .before .before .before .before))
 
 sub-last : tie.Need-sub-last Inv-loop2 μ-loop2 Inv-loop3 μ-loop3 Inv-loop5 μ-loop5 Inv-loop4 μ-loop4 Inv-loop μ-loop
-sub-last c = omega (arith, within (c .before .before .before .before .before .before .before .before .before .before .before .before .before .before .before) ((c .before .before .before .before .before .before .before .before .before .before .before) .loop2 .c) (scanned (c .before .before .before .before .before .before .before .before .before .before)))
+sub-last c = omega (arith, scan-within (c .before .before .before .before .before .before .before .before .before .before))
 
 add-last : tie.Need-add-last Inv-loop2 μ-loop2 Inv-loop3 μ-loop3 Inv-loop5 μ-loop5 Inv-loop4 μ-loop4 Inv-loop μ-loop
-add-last c = omega (arith, within (c .before .before .before .before .before .before .before .before .before .before .before .before .before .before .before) ((c .before .before .before .before .before .before .before .before .before .before .before) .loop2 .c) (scanned (c .before .before .before .before .before .before .before .before .before .before)))
+add-last c = omega (arith, scan-within (c .before .before .before .before .before .before .before .before .before .before))
 
 mul-last-2 : tie.Need-mul-last-2 Inv-loop2 μ-loop2 Inv-loop3 μ-loop3 Inv-loop5 μ-loop5 Inv-loop4 μ-loop4 Inv-loop μ-loop
-mul-last-2 c = omega (arith, within (c .before .before .before .before .before .before .before .before .before .before .before .before .before .before .before) ((c .before .before .before .before .before .before .before .before .before .before .before) .loop2 .c) (scanned (c .before .before .before .before .before .before .before .before .before .before)))
+mul-last-2 c = omega (arith, scan-within (c .before .before .before .before .before .before .before .before .before .before))
 
 element-copy-out-last : tie.Need-element-copy-out-last Inv-loop2 μ-loop2 Inv-loop3 μ-loop3 Inv-loop5 μ-loop5 Inv-loop4 μ-loop4 Inv-loop μ-loop
-element-copy-out-last c = omega (arith, within (c .before .before .before .before .before .before .before .before .before .before .before .before .before .before .before) ((c .before .before .before .before .before .before .before .before .before .before .before) .loop2 .c) (scanned (c .before .before .before .before .before .before .before .before .before .before)))
+element-copy-out-last c = omega (arith, scan-within (c .before .before .before .before .before .before .before .before .before .before))
 
 link-requires : tie.Need-link-requires Inv-loop2 μ-loop2 Inv-loop3 μ-loop3 Inv-loop5 μ-loop5 Inv-loop4 μ-loop4 Inv-loop μ-loop
 link-requires c κs = tt
 
 mul-first : tie.Need-mul-first Inv-loop2 μ-loop2 Inv-loop3 μ-loop3 Inv-loop5 μ-loop5 Inv-loop4 μ-loop4 Inv-loop μ-loop
-mul-first c = omega (arith, within (c .before .before .before .before .before .before .before .before .before .before .before .before .before .before .before .before .before) ((c .before .before .before .before .before .before .before .before .before .before .before .before .before) .loop2 .c) (scanned (c .before .before .before .before .before .before .before .before .before .before .before .before)))
+mul-first c = omega (arith, scan-within (c .before .before .before .before .before .before .before .before .before .before .before .before))
 
 mul-first-2 : tie.Need-mul-first-2 Inv-loop2 μ-loop2 Inv-loop3 μ-loop3 Inv-loop5 μ-loop5 Inv-loop4 μ-loop4 Inv-loop μ-loop
-mul-first-2 c = omega (arith, within (c .before .before .before .before .before .before .before .before .before .before .before .before .before .before .before .before .before) ((c .before .before .before .before .before .before .before .before .before .before .before .before .before) .loop2 .c) (scanned (c .before .before .before .before .before .before .before .before .before .before .before .before)))
+mul-first-2 c = omega (arith, scan-within (c .before .before .before .before .before .before .before .before .before .before .before .before))
 
 element-copy-out-first : tie.Need-element-copy-out-first Inv-loop2 μ-loop2 Inv-loop3 μ-loop3 Inv-loop5 μ-loop5 Inv-loop4 μ-loop4 Inv-loop μ-loop
-element-copy-out-first c = omega (arith, within (c .before .before .before .before .before .before .before .before .before .before .before .before .before .before .before .before .before) ((c .before .before .before .before .before .before .before .before .before .before .before .before .before) .loop2 .c) (scanned (c .before .before .before .before .before .before .before .before .before .before .before .before)))
+element-copy-out-first c =
+    omega (arith, scan-within (c .before .before .before .before .before .before .before .before .before .before .before .before))
 
 full-requires-2 : tie.Need-full-requires-2 Inv-loop2 μ-loop2 Inv-loop3 μ-loop3 Inv-loop5 μ-loop5 Inv-loop4 μ-loop4 Inv-loop μ-loop
 full-requires-2 c κs = tt
@@ -232,52 +257,73 @@ input-requires : tie.Need-input-requires Inv-loop2 μ-loop2 Inv-loop3 μ-loop3 I
 input-requires c κs = tt
 
 mul-brought : tie.Need-mul-brought Inv-loop2 μ-loop2 Inv-loop3 μ-loop3 Inv-loop5 μ-loop5 Inv-loop4 μ-loop4 Inv-loop μ-loop
-mul-brought c = omega (arith, within (c .before .before .before .before .before .before .before .before .before .before .before .before .before .before .before .before .before) ((c .before .before .before .before .before .before .before .before .before .before .before .before .before) .loop2 .c) (scanned (c .before .before .before .before .before .before .before .before .before .before .before .before)))
+mul-brought c = omega (arith, scan-within (c .before .before .before .before .before .before .before .before .before .before .before .before))
 
 cast-brought : tie.Need-cast-brought Inv-loop2 μ-loop2 Inv-loop3 μ-loop3 Inv-loop5 μ-loop5 Inv-loop4 μ-loop4 Inv-loop μ-loop
-cast-brought c = omega (arith, within (c .before .before .before .before .before .before .before .before .before .before .before .before .before .before .before .before .before .before) ((c .before .before .before .before .before .before .before .before .before .before .before .before .before .before) .loop2 .c) (scanned (c .before .before .before .before .before .before .before .before .before .before .before .before .before)))
+cast-brought c =
+    omega (arith, scan-within (c .before .before .before .before .before .before .before .before .before .before .before .before .before))
 
 add-brought : tie.Need-add-brought Inv-loop2 μ-loop2 Inv-loop3 μ-loop3 Inv-loop5 μ-loop5 Inv-loop4 μ-loop4 Inv-loop μ-loop
-add-brought c = omega (arith, within (c .before .before .before .before .before .before .before .before .before .before .before .before .before .before .before .before .before .before) ((c .before .before .before .before .before .before .before .before .before .before .before .before .before .before) .loop2 .c) (scanned (c .before .before .before .before .before .before .before .before .before .before .before .before .before)))
+add-brought c = omega (arith, scan-within (c .before .before .before .before .before .before .before .before .before .before .before .before .before))
 
 mul-brought-2 : tie.Need-mul-brought-2 Inv-loop2 μ-loop2 Inv-loop3 μ-loop3 Inv-loop5 μ-loop5 Inv-loop4 μ-loop4 Inv-loop μ-loop
-mul-brought-2 c = omega (arith, within (c .before .before .before .before .before .before .before .before .before .before .before .before .before .before .before .before .before .before) ((c .before .before .before .before .before .before .before .before .before .before .before .before .before .before) .loop2 .c) (scanned (c .before .before .before .before .before .before .before .before .before .before .before .before .before)))
+mul-brought-2 c =
+    omega (arith, scan-within (c .before .before .before .before .before .before .before .before .before .before .before .before .before))
 
 array-set-from-brought : tie.Need-array-set-from-brought Inv-loop2 μ-loop2 Inv-loop3 μ-loop3 Inv-loop5 μ-loop5 Inv-loop4 μ-loop4 Inv-loop μ-loop
-array-set-from-brought c = omega (arith, within (c .before .before .before .before .before .before .before .before .before .before .before .before .before .before .before .before .before .before) ((c .before .before .before .before .before .before .before .before .before .before .before .before .before .before) .loop2 .c) (scanned (c .before .before .before .before .before .before .before .before .before .before .before .before .before)))
+array-set-from-brought c =
+    omega (arith, scan-within (c .before .before .before .before .before .before .before .before .before .before .before .before .before))
 
 array-read-starved : tie.Need-array-read-starved Inv-loop2 μ-loop2 Inv-loop3 μ-loop3 Inv-loop5 μ-loop5 Inv-loop4 μ-loop4 Inv-loop μ-loop
-array-read-starved c = omega (arith, within (c .before .before .before .before .before .before .before .before .before .before .before .before .before .before .before .before .before .before) ((c .before .before .before .before .before .before .before .before .before .before .before .before .before .before) .loop2 .c) (scanned (c .before .before .before .before .before .before .before .before .before .before .before .before .before)))
+array-read-starved c =
+    omega (arith, scan-within (c .before .before .before .before .before .before .before .before .before .before .before .before .before))
 
 array-write-starved : tie.Need-array-write-starved Inv-loop2 μ-loop2 Inv-loop3 μ-loop3 Inv-loop5 μ-loop5 Inv-loop4 μ-loop4 Inv-loop μ-loop
-array-write-starved c = omega (arith, within (c .before .before .before .before .before .before .before .before .before .before .before .before .before .before .before .before .before .before .before) ((c .before .before .before .before .before .before .before .before .before .before .before .before .before .before .before) .loop2 .c) (scanned (c .before .before .before .before .before .before .before .before .before .before .before .before .before .before)))
+array-write-starved c =
+    omega (arith, scan-within (c .before .before .before .before .before .before .before .before .before .before .before .before .before .before))
 
 array-read-blocked : tie.Need-array-read-blocked Inv-loop2 μ-loop2 Inv-loop3 μ-loop3 Inv-loop5 μ-loop5 Inv-loop4 μ-loop4 Inv-loop μ-loop
-array-read-blocked c = omega (arith, within (c .before .before .before .before .before .before .before .before .before .before .before .before .before .before .before .before .before .before .before) ((c .before .before .before .before .before .before .before .before .before .before .before .before .before .before .before) .loop2 .c) (scanned (c .before .before .before .before .before .before .before .before .before .before .before .before .before .before)))
+array-read-blocked c =
+    omega (arith, scan-within (c .before .before .before .before .before .before .before .before .before .before .before .before .before .before))
 
 blocked-requires : tie.Need-blocked-requires Inv-loop2 μ-loop2 Inv-loop3 μ-loop3 Inv-loop5 μ-loop5 Inv-loop4 μ-loop4 Inv-loop μ-loop
 blocked-requires c κs = tt
 
 array-write-blocked : tie.Need-array-write-blocked Inv-loop2 μ-loop2 Inv-loop3 μ-loop3 Inv-loop5 μ-loop5 Inv-loop4 μ-loop4 Inv-loop μ-loop
-array-write-blocked c = omega (arith, within (c .before .before .before .before .before .before .before .before .before .before .before .before .before .before .before .before .before .before .before .before) ((c .before .before .before .before .before .before .before .before .before .before .before .before .before .before .before .before) .loop2 .c) (scanned (c .before .before .before .before .before .before .before .before .before .before .before .before .before .before .before)))
+array-write-blocked c =
+    omega (
+      arith,
+      scan-within
+          (c .before .before .before .before .before .before .before .before .before .before .before .before .before .before .before),
+    )
 
 add-c : tie.Need-add-c Inv-loop2 μ-loop2 Inv-loop3 μ-loop3 Inv-loop5 μ-loop5 Inv-loop4 μ-loop4 Inv-loop μ-loop
-add-c c = omega (arith, within (c .before .before .before .before .before .before .before .before .before .before .before .before .before .before .before .before .before .before .before .before) ((c .before .before .before .before .before .before .before .before .before .before .before .before .before .before .before .before) .loop2 .c) (scanned (c .before .before .before .before .before .before .before .before .before .before .before .before .before .before .before)))
+add-c c =
+    omega (
+      arith,
+      scan-within
+          (c .before .before .before .before .before .before .before .before .before .before .before .before .before .before .before),
+    )
 
 loop2-less : tie.Need-loop2-less Inv-loop2 μ-loop2 Inv-loop3 μ-loop3 Inv-loop5 μ-loop5 Inv-loop4 μ-loop4 Inv-loop μ-loop
 loop2-less c = omega arith
 
 loop2-again : tie.Need-loop2-again Inv-loop2 μ-loop2 Inv-loop3 μ-loop3 Inv-loop5 μ-loop5 Inv-loop4 μ-loop4 Inv-loop μ-loop
-loop2-again c = let k = (c .before .before .before .before .before .before .before .before .before .before .before .before .before .before .before .before .before .before .before .before) in
+loop2-again c =
+    let k = (c .before .before .before .before .before .before .before .before .before .before .before .before .before .before .before .before .before .before .before .before) in
     let s = (c .before .before .before .before .before .before .before .before .before .before .before .before .before .before .before .before .before .before .before) .loop .s in
     let fit = (c .before .before .before .before .before .before .before .before .before .before .before .before .before .before .before .before .before .before .before) .loop .inv .fits in
     let i = (c .before .before .before .before .before .before .before .before .before .before .before .before .before .before .before .before) .loop2 .c in
-    let h = there k i (scanned (c .before .before .before .before .before .before .before .before .before .before .before .before .before .before .before)) in
-    let e = wire k i (scanned (c .before .before .before .before .before .before .before .before .before .before .before .before .before .before .before)) in
+    let h = there k i (scanned
+    (c .before .before .before .before .before .before .before .before .before .before .before .before .before .before .before)) in
+    let e = wire k i (scanned
+    (c .before .before .before .before .before .before .before .before .before .before .before .before .before .before .before)) in
     let inv = (c .before .before .before .before .before .before .before .before .before .before .before .before .before .before .before .before) .loop2 .inv in
     let join = (c .before .before .before .before .before) .if1 in
-    let f : SFits w32 (getD (s .nodes) (readAt k i .from) noNode .value) = record { sfits = (c .before .before .before .before .before .before .before) .struct-told .given .0 .1 } in
-    let g : SFits w32 ((c .before .before .before .before) .input .result .value) = record { sfits = (c .before .before .before) .struct-told2 .given .1 .0 .1 } in
+    let f : SFits w32 (getD (s .nodes) (readAt k i .from) noNode .value)
+    = record { sfits = (c .before .before .before .before .before .before .before) .struct-told .given .0 .1 } in
+    let g : SFits w32 ((c .before .before .before .before) .input .result .value)
+    = record { sfits = (c .before .before .before) .struct-told2 .given .1 .0 .1 } in
     let link : token (join .link) ≡ arriving (channelIn (img k) s i) =
     arriving-read (img k) (net k) s fit i h _ e _ (join .link) (source-read (img k) (net k) s fit i h _ e _ (toZ-ofZ f))
     (⊎-elim (λ d. inl (omega (arith, d .0 .taken), d .5 ∙ d .2 .ensures)) (λ d. inr (omega (arith, d .0 .left), d .1)) (join .came)) in
@@ -285,7 +331,11 @@ loop2-again c = let k = (c .before .before .before .before .before .before .befo
     stop-read (img k) (net k) s fit i h _ e 0 (join .stop)
     (⊎-elim
     (λ d. inl (omega (arith, d .0 .taken), d .6 ∙ d .4 .ensures ∙ first-place s i))
-    (λ d. inr (omega (arith, d .0 .left), d .2 ∙ (c .before .before .before .before .before .before) .full .ensures ∙ full-read (img k) (net k) s fit i h _ e))
+    (λ d. inr (
+      omega (arith, d .0 .left),
+      d .2 ∙ (c .before .before .before .before .before .before) .full .ensures ∙ full-read (img k) (net k)
+          s fit i h _ e,
+    ))
     (join .came)) in
     let input : (c .before .before .before .before) .input .result ≡ inputAt (img k) s i =
     (c .before .before .before .before) .input .ensures ∙ input-read (img k) (net k) s fit i h _ e (join .link) link in (
@@ -348,25 +398,31 @@ mul-fired-6 : tie.Need-mul-fired-6 Inv-loop2 μ-loop2 Inv-loop3 μ-loop3 Inv-loo
 mul-fired-6 c = omega (arith, few (c .before .before .before .before .before .before .before .before .before .before .before .before .before))
 
 array-copy-out-fired-3 : tie.Need-array-copy-out-fired-3 Inv-loop2 μ-loop2 Inv-loop3 μ-loop3 Inv-loop5 μ-loop5 Inv-loop4 μ-loop4 Inv-loop μ-loop
-array-copy-out-fired-3 c = omega (arith, few (c .before .before .before .before .before .before .before .before .before .before .before .before .before))
+array-copy-out-fired-3 c =
+    omega (arith, few (c .before .before .before .before .before .before .before .before .before .before .before .before .before))
 
 fired-requires : tie.Need-fired-requires Inv-loop2 μ-loop2 Inv-loop3 μ-loop3 Inv-loop5 μ-loop5 Inv-loop4 μ-loop4 Inv-loop μ-loop
 unfolding nodeAt
 fired-requires c κs = let k = (c .before .before .before .before .before .before .before .before .before .before .before .before .before .before) in
     let s = (c .before .before .before .before .before .before .before .before .before .before .before .before .before) .loop .s in
     let n = (c .before .before .before .before .before .before .before .before) .loop3 .n in
-    let there : n < nodes (img k) = omega (arith, (c .before .before .before .before .before .before .before .before .before .before .before .before .before .before .before .before .before) .nodes .ensures) in
-    let h : getD (s .nodes) n noNode .firings < 1000000 = omega (arith, (c .before .before .before .before .before .before .before .before .before .before .before .before .before) .loop .inv .fits .fired n there, (c .before .before .before .before .before .before .before .before .before .before .before .before .before) .loop .inv .count) in
+    let there : n < nodes (img k) = omega
+    (arith, (c .before .before .before .before .before .before .before .before .before .before .before .before .before .before .before .before .before) .nodes .ensures) in
+    let h : getD (s .nodes) n noNode .firings < 1000000 = omega
+    (arith, (c .before .before .before .before .before .before .before .before .before .before .before .before .before) .loop .inv .fits .fired n there, (c .before .before .before .before .before .before .before .before .before .before .before .before .before) .loop .inv .count) in
     h
 
 mul-next : tie.Need-mul-next Inv-loop2 μ-loop2 Inv-loop3 μ-loop3 Inv-loop5 μ-loop5 Inv-loop4 μ-loop4 Inv-loop μ-loop
-mul-next c = omega (arith, few (c .before .before .before .before .before .before .before .before .before .before .before .before .before .before .before))
+mul-next c =
+    omega (arith, few (c .before .before .before .before .before .before .before .before .before .before .before .before .before .before .before))
 
 element-set-from-next : tie.Need-element-set-from-next Inv-loop2 μ-loop2 Inv-loop3 μ-loop3 Inv-loop5 μ-loop5 Inv-loop4 μ-loop4 Inv-loop μ-loop
-element-set-from-next c = omega (arith, few (c .before .before .before .before .before .before .before .before .before .before .before .before .before .before .before))
+element-set-from-next c =
+    omega (arith, few (c .before .before .before .before .before .before .before .before .before .before .before .before .before .before .before))
 
 array-write-fires : tie.Need-array-write-fires Inv-loop2 μ-loop2 Inv-loop3 μ-loop3 Inv-loop5 μ-loop5 Inv-loop4 μ-loop4 Inv-loop μ-loop
-array-write-fires c = omega (arith, few (c .before .before .before .before .before .before .before .before .before .before .before .before .before .before .before))
+array-write-fires c =
+    omega (arith, few (c .before .before .before .before .before .before .before .before .before .before .before .before .before .before .before))
 
 add-n : tie.Need-add-n Inv-loop2 μ-loop2 Inv-loop3 μ-loop3 Inv-loop5 μ-loop5 Inv-loop4 μ-loop4 Inv-loop μ-loop
 add-n c = omega (arith, few (c .before .before .before .before .before .before .before .before .before))
@@ -382,8 +438,10 @@ loop3-again c = let k = (c .before .before .before .before .before .before .befo
     let scan = (c .before .before .before .before .before) .loop2 in
     let l = (c .before .before .before) .loop3 in
     let n = l .n in
-    let there : n < nodes (img k) = omega (arith, (c .before .before .before .before .before .before .before .before .before .before .before .before) .nodes .ensures) in
-    let all : scan .c ≡ channels (img k) = omega (arith, (c .before .before .before .before .before .before .before .before .before .before .before) .channels .ensures) in
+    let there : n < nodes (img k) = omega
+    (arith, (c .before .before .before .before .before .before .before .before .before .before .before .before) .nodes .ensures) in
+    let all : scan .c ≡ channels (img k) = omega
+    (arith, (c .before .before .before .before .before .before .before .before .before .before .before) .channels .ensures) in
     let join = c .if2 in
     let test = fires-read (img k) (net k) s fit w n there (scan .starved) (scan .blocked)
     (scan .inv .1 ∙ ap (starvedBelow (img k) s) all) (scan .inv .3 ∙ ap (blockedBelow (img k) s) all) _ ((c .before) .stalls .ensures) in
@@ -410,54 +468,55 @@ loop4-holds c = let k = (c .before .before .before .before .before .before .befo
     (omega arith, l .inv .1 ∙ ap (λ (n : ℕ). movedBelow (img k) w s (s .cycles) (nodesBelow (img k) w s n) 0 0) e)
 
 mul-channel-2 : tie.Need-mul-channel-2 Inv-loop2 μ-loop2 Inv-loop3 μ-loop3 Inv-loop5 μ-loop5 Inv-loop4 μ-loop4 Inv-loop μ-loop
-mul-channel-2 c = omega (arith, within (c .before .before .before .before .before .before .before .before .before) ((c .before) .loop4 .c) (moving c))
+mul-channel-2 c = omega (arith, move-within c)
 
 element-copy-out-channel-2 :
     tie.Need-element-copy-out-channel-2 Inv-loop2 μ-loop2 Inv-loop3 μ-loop3 Inv-loop5 μ-loop5 Inv-loop4 μ-loop4 Inv-loop μ-loop
-element-copy-out-channel-2 c = omega (arith, within (c .before .before .before .before .before .before .before .before .before) ((c .before) .loop4 .c) (moving c))
+element-copy-out-channel-2 c = omega (arith, move-within c)
 
 cast-from-2 : tie.Need-cast-from-2 Inv-loop2 μ-loop2 Inv-loop3 μ-loop3 Inv-loop5 μ-loop5 Inv-loop4 μ-loop4 Inv-loop μ-loop
-cast-from-2 c = omega (arith, within (c .before .before .before .before .before .before .before .before .before .before .before) ((c .before .before .before) .loop4 .c) (moving (c .before .before)))
+cast-from-2 c = omega (arith, move-within (c .before .before))
 
 cast-to-2 : tie.Need-cast-to-2 Inv-loop2 μ-loop2 Inv-loop3 μ-loop3 Inv-loop5 μ-loop5 Inv-loop4 μ-loop4 Inv-loop μ-loop
-cast-to-2 c = omega (arith, within (c .before .before .before .before .before .before .before .before .before .before .before .before) ((c .before .before .before .before) .loop4 .c) (moving (c .before .before .before)))
+cast-to-2 c = omega (arith, move-within (c .before .before .before))
 
 cast-length-2 : tie.Need-cast-length-2 Inv-loop2 μ-loop2 Inv-loop3 μ-loop3 Inv-loop5 μ-loop5 Inv-loop4 μ-loop4 Inv-loop μ-loop
-cast-length-2 c = omega (arith, within (c .before .before .before .before .before .before .before .before .before .before .before .before .before) ((c .before .before .before .before .before) .loop4 .c) (moving (c .before .before .before .before)))
+cast-length-2 c = omega (arith, move-within (c .before .before .before .before))
 
 mul-node-3 : tie.Need-mul-node-3 Inv-loop2 μ-loop2 Inv-loop3 μ-loop3 Inv-loop5 μ-loop5 Inv-loop4 μ-loop4 Inv-loop μ-loop
-mul-node-3 c = omega (arith, within (c .before .before .before .before .before .before .before .before .before .before .before .before .before) ((c .before .before .before .before .before) .loop4 .c) (moving (c .before .before .before .before)))
+mul-node-3 c = omega (arith, move-within (c .before .before .before .before))
 
 element-copy-out-node-3 : tie.Need-element-copy-out-node-3 Inv-loop2 μ-loop2 Inv-loop3 μ-loop3 Inv-loop5 μ-loop5 Inv-loop4 μ-loop4 Inv-loop μ-loop
-element-copy-out-node-3 c = omega (arith, within (c .before .before .before .before .before .before .before .before .before .before .before .before .before) ((c .before .before .before .before .before) .loop4 .c) (moving (c .before .before .before .before)))
+element-copy-out-node-3 c = omega (arith, move-within (c .before .before .before .before))
 
 mul-queue-2 : tie.Need-mul-queue-2 Inv-loop2 μ-loop2 Inv-loop3 μ-loop3 Inv-loop5 μ-loop5 Inv-loop4 μ-loop4 Inv-loop μ-loop
-mul-queue-2 c = omega (arith, within (c .before .before .before .before .before .before .before .before .before .before .before .before .before .before) ((c .before .before .before .before .before .before) .loop4 .c) (moving (c .before .before .before .before .before)))
+mul-queue-2 c = omega (arith, move-within (c .before .before .before .before .before))
 
 element-copy-out-queue-2 : tie.Need-element-copy-out-queue-2 Inv-loop2 μ-loop2 Inv-loop3 μ-loop3 Inv-loop5 μ-loop5 Inv-loop4 μ-loop4 Inv-loop μ-loop
-element-copy-out-queue-2 c = omega (arith, within (c .before .before .before .before .before .before .before .before .before .before .before .before .before .before) ((c .before .before .before .before .before .before) .loop4 .c) (moving (c .before .before .before .before .before)))
+element-copy-out-queue-2 c = omega (arith, move-within (c .before .before .before .before .before))
 
 element-copy-out-pending-2 :
     tie.Need-element-copy-out-pending-2 Inv-loop2 μ-loop2 Inv-loop3 μ-loop3 Inv-loop5 μ-loop5 Inv-loop4 μ-loop4 Inv-loop μ-loop
-element-copy-out-pending-2 c = omega (arith, within (c .before .before .before .before .before .before .before .before .before .before .before .before .before .before .before) ((c .before .before .before .before .before .before .before) .loop4 .c) (moving (c .before .before .before .before .before .before)))
+element-copy-out-pending-2 c = omega (arith, move-within (c .before .before .before .before .before .before))
 
 full-requires-3 : tie.Need-full-requires-3 Inv-loop2 μ-loop2 Inv-loop3 μ-loop3 Inv-loop5 μ-loop5 Inv-loop4 μ-loop4 Inv-loop μ-loop
 full-requires-3 c κs = tt
 
 mul-first-3 : tie.Need-mul-first-3 Inv-loop2 μ-loop2 Inv-loop3 μ-loop3 Inv-loop5 μ-loop5 Inv-loop4 μ-loop4 Inv-loop μ-loop
-mul-first-3 c = omega (arith, within (c .before .before .before .before .before .before .before .before .before .before .before .before .before .before .before .before .before .before .before) ((c .before .before .before .before .before .before .before .before .before .before .before) .loop4 .c) (moving (c .before .before .before .before .before .before .before .before .before .before)))
+mul-first-3 c = omega (arith, move-within (c .before .before .before .before .before .before .before .before .before .before))
 
 mul-first-4 : tie.Need-mul-first-4 Inv-loop2 μ-loop2 Inv-loop3 μ-loop3 Inv-loop5 μ-loop5 Inv-loop4 μ-loop4 Inv-loop μ-loop
-mul-first-4 c = omega (arith, within (c .before .before .before .before .before .before .before .before .before .before .before .before .before .before .before .before .before .before .before) ((c .before .before .before .before .before .before .before .before .before .before .before) .loop4 .c) (moving (c .before .before .before .before .before .before .before .before .before .before)))
+mul-first-4 c = omega (arith, move-within (c .before .before .before .before .before .before .before .before .before .before))
 
 element-copy-out-first-2 : tie.Need-element-copy-out-first-2 Inv-loop2 μ-loop2 Inv-loop3 μ-loop3 Inv-loop5 μ-loop5 Inv-loop4 μ-loop4 Inv-loop μ-loop
-element-copy-out-first-2 c = omega (arith, within (c .before .before .before .before .before .before .before .before .before .before .before .before .before .before .before .before .before .before .before) ((c .before .before .before .before .before .before .before .before .before .before .before) .loop4 .c) (moving (c .before .before .before .before .before .before .before .before .before .before)))
+element-copy-out-first-2 c = omega (arith, move-within (c .before .before .before .before .before .before .before .before .before .before))
 
 full-requires-4 : tie.Need-full-requires-4 Inv-loop2 μ-loop2 Inv-loop3 μ-loop3 Inv-loop5 μ-loop5 Inv-loop4 μ-loop4 Inv-loop μ-loop
 full-requires-4 c κs = tt
 
 loop5-holds : tie.Need-loop5-holds Inv-loop2 μ-loop2 Inv-loop3 μ-loop3 Inv-loop5 μ-loop5 Inv-loop4 μ-loop4 Inv-loop μ-loop
-loop5-holds c = let k = (c .before .before .before .before .before .before .before .before .before .before .before .before .before .before .before .before .before .before .before) in
+loop5-holds c =
+    let k = (c .before .before .before .before .before .before .before .before .before .before .before .before .before .before .before .before .before .before .before) in
     let s = (c .before .before .before .before .before .before .before .before .before .before .before .before .before .before .before .before .before .before) .loop .s in
     let fit = (c .before .before .before .before .before .before .before .before .before .before .before .before .before .before .before .before .before .before) .loop .inv .fits in
     let w = word (c .before .before .before .before .before .before .before .before .before .before .before .before .before .before .before .before .before .before) in
@@ -467,40 +526,48 @@ loop5-holds c = let k = (c .before .before .before .before .before .before .befo
     let e = wire k i (moving (c .before .before .before .before .before .before .before .before .before .before)) in
     let f : SFits w32 (getD (s .nodes) (readAt k i .from) noNode .value) = record { sfits = (c .before) .struct-told3 .given .0 .1 } in (
       omega arith,
-      l .inv .1 ∙ ap (movedBelow (img k) w s (s .cycles) (nodesBelow (img k) w s ((c .before .before .before .before .before .before .before .before .before .before .before .before .before .before .before .before .before .before .before .before .before .before) .nodes .result)) i) (sym (add-zero (8 * i))),
+      l .inv .1 ∙ ap (movedBelow (img k) w s (s .cycles)
+          (nodesBelow (img k) w s
+          ((c .before .before .before .before .before .before .before .before .before .before .before .before .before .before .before .before .before .before .before .before .before .before) .nodes .result)) i) (sym (add-zero (8 * i))),
       source-read (img k) (net k) s fit i h _ e _ (toZ-ofZ f),
     )
 
 mul-station : tie.Need-mul-station Inv-loop2 μ-loop2 Inv-loop3 μ-loop3 Inv-loop5 μ-loop5 Inv-loop4 μ-loop4 Inv-loop μ-loop
-mul-station c = omega (arith, within (c .before .before .before .before .before .before .before .before .before .before .before .before .before .before .before .before .before .before .before .before .before) ((c .before .before .before .before .before .before .before .before .before .before .before .before .before) .loop4 .c) (moving (c .before .before .before .before .before .before .before .before .before .before .before .before)))
+mul-station c = omega (arith, move-within (c .before .before .before .before .before .before .before .before .before .before .before .before))
 
 add-station : tie.Need-add-station Inv-loop2 μ-loop2 Inv-loop3 μ-loop3 Inv-loop5 μ-loop5 Inv-loop4 μ-loop4 Inv-loop μ-loop
-add-station c = omega (arith, within (c .before .before .before .before .before .before .before .before .before .before .before .before .before .before .before .before .before .before .before .before .before) ((c .before .before .before .before .before .before .before .before .before .before .before .before .before) .loop4 .c) (moving (c .before .before .before .before .before .before .before .before .before .before .before .before)))
+add-station c = omega (arith, move-within (c .before .before .before .before .before .before .before .before .before .before .before .before))
 
 mul-station-2 : tie.Need-mul-station-2 Inv-loop2 μ-loop2 Inv-loop3 μ-loop3 Inv-loop5 μ-loop5 Inv-loop4 μ-loop4 Inv-loop μ-loop
-mul-station-2 c = omega (arith, within (c .before .before .before .before .before .before .before .before .before .before .before .before .before .before .before .before .before .before .before .before .before) ((c .before .before .before .before .before .before .before .before .before .before .before .before .before) .loop4 .c) (moving (c .before .before .before .before .before .before .before .before .before .before .before .before)))
+mul-station-2 c = omega (arith, move-within (c .before .before .before .before .before .before .before .before .before .before .before .before))
 
 element-copy-out-station : tie.Need-element-copy-out-station Inv-loop2 μ-loop2 Inv-loop3 μ-loop3 Inv-loop5 μ-loop5 Inv-loop4 μ-loop4 Inv-loop μ-loop
-element-copy-out-station c = omega (arith, within (c .before .before .before .before .before .before .before .before .before .before .before .before .before .before .before .before .before .before .before .before .before) ((c .before .before .before .before .before .before .before .before .before .before .before .before .before) .loop4 .c) (moving (c .before .before .before .before .before .before .before .before .before .before .before .before)))
+element-copy-out-station c =
+    omega (arith, move-within (c .before .before .before .before .before .before .before .before .before .before .before .before))
 
 add-if4 : tie.Need-add-if4 Inv-loop2 μ-loop2 Inv-loop3 μ-loop3 Inv-loop5 μ-loop5 Inv-loop4 μ-loop4 Inv-loop μ-loop
-add-if4 c = omega (arith, within (c .before .before .before .before .before .before .before .before .before .before .before .before .before .before .before .before .before .before .before .before .before .before) ((c .before .before .before .before .before .before .before .before .before .before .before .before .before .before) .loop4 .c) (moving (c .before .before .before .before .before .before .before .before .before .before .before .before .before)))
+add-if4 c = omega (arith, move-within (c .before .before .before .before .before .before .before .before .before .before .before .before .before))
 
 mul-following : tie.Need-mul-following Inv-loop2 μ-loop2 Inv-loop3 μ-loop3 Inv-loop5 μ-loop5 Inv-loop4 μ-loop4 Inv-loop μ-loop
-mul-following c = omega (arith, within (c .before .before .before .before .before .before .before .before .before .before .before .before .before .before .before .before .before .before .before .before .before .before .before) ((c .before .before .before .before .before .before .before .before .before .before .before .before .before .before .before) .loop4 .c) (moving (c .before .before .before .before .before .before .before .before .before .before .before .before .before .before)))
+mul-following c =
+    omega (arith, move-within (c .before .before .before .before .before .before .before .before .before .before .before .before .before .before))
 
 add-following : tie.Need-add-following Inv-loop2 μ-loop2 Inv-loop3 μ-loop3 Inv-loop5 μ-loop5 Inv-loop4 μ-loop4 Inv-loop μ-loop
-add-following c = omega (arith, within (c .before .before .before .before .before .before .before .before .before .before .before .before .before .before .before .before .before .before .before .before .before .before .before) ((c .before .before .before .before .before .before .before .before .before .before .before .before .before .before .before) .loop4 .c) (moving (c .before .before .before .before .before .before .before .before .before .before .before .before .before .before)))
+add-following c =
+    omega (arith, move-within (c .before .before .before .before .before .before .before .before .before .before .before .before .before .before))
 
 add-following-2 : tie.Need-add-following-2 Inv-loop2 μ-loop2 Inv-loop3 μ-loop3 Inv-loop5 μ-loop5 Inv-loop4 μ-loop4 Inv-loop μ-loop
-add-following-2 c = omega (arith, within (c .before .before .before .before .before .before .before .before .before .before .before .before .before .before .before .before .before .before .before .before .before .before .before) ((c .before .before .before .before .before .before .before .before .before .before .before .before .before .before .before) .loop4 .c) (moving (c .before .before .before .before .before .before .before .before .before .before .before .before .before .before)))
+add-following-2 c =
+    omega (arith, move-within (c .before .before .before .before .before .before .before .before .before .before .before .before .before .before))
 
 mul-following-2 : tie.Need-mul-following-2 Inv-loop2 μ-loop2 Inv-loop3 μ-loop3 Inv-loop5 μ-loop5 Inv-loop4 μ-loop4 Inv-loop μ-loop
-mul-following-2 c = omega (arith, within (c .before .before .before .before .before .before .before .before .before .before .before .before .before .before .before .before .before .before .before .before .before .before .before) ((c .before .before .before .before .before .before .before .before .before .before .before .before .before .before .before) .loop4 .c) (moving (c .before .before .before .before .before .before .before .before .before .before .before .before .before .before)))
+mul-following-2 c =
+    omega (arith, move-within (c .before .before .before .before .before .before .before .before .before .before .before .before .before .before))
 
 element-copy-out-following :
     tie.Need-element-copy-out-following Inv-loop2 μ-loop2 Inv-loop3 μ-loop3 Inv-loop5 μ-loop5 Inv-loop4 μ-loop4 Inv-loop μ-loop
-element-copy-out-following c = omega (arith, within (c .before .before .before .before .before .before .before .before .before .before .before .before .before .before .before .before .before .before .before .before .before .before .before) ((c .before .before .before .before .before .before .before .before .before .before .before .before .before .before .before) .loop4 .c) (moving (c .before .before .before .before .before .before .before .before .before .before .before .before .before .before)))
+element-copy-out-following c =
+    omega (arith, move-within (c .before .before .before .before .before .before .before .before .before .before .before .before .before .before))
 
 full-requires-5 : tie.Need-full-requires-5 Inv-loop2 μ-loop2 Inv-loop3 μ-loop3 Inv-loop5 μ-loop5 Inv-loop4 μ-loop4 Inv-loop μ-loop
 full-requires-5 c κs = tt
@@ -509,34 +576,62 @@ after-requires : tie.Need-after-requires Inv-loop2 μ-loop2 Inv-loop3 μ-loop3 I
 after-requires c κs = tt
 
 mul-next-2 : tie.Need-mul-next-2 Inv-loop2 μ-loop2 Inv-loop3 μ-loop3 Inv-loop5 μ-loop5 Inv-loop4 μ-loop4 Inv-loop μ-loop
-mul-next-2 c = omega (arith, within (c .before .before .before .before .before .before .before .before .before .before .before .before .before .before .before .before .before .before .before .before .before .before .before .before) ((c .before .before .before .before .before .before .before .before .before .before .before .before .before .before .before .before) .loop4 .c) (moving (c .before .before .before .before .before .before .before .before .before .before .before .before .before .before .before)))
+mul-next-2 c =
+    omega (
+      arith,
+      move-within
+          (c .before .before .before .before .before .before .before .before .before .before .before .before .before .before .before),
+    )
 
 add-next : tie.Need-add-next Inv-loop2 μ-loop2 Inv-loop3 μ-loop3 Inv-loop5 μ-loop5 Inv-loop4 μ-loop4 Inv-loop μ-loop
-add-next c = omega (arith, within (c .before .before .before .before .before .before .before .before .before .before .before .before .before .before .before .before .before .before .before .before .before .before .before .before) ((c .before .before .before .before .before .before .before .before .before .before .before .before .before .before .before .before) .loop4 .c) (moving (c .before .before .before .before .before .before .before .before .before .before .before .before .before .before .before)))
+add-next c =
+    omega (
+      arith,
+      move-within
+          (c .before .before .before .before .before .before .before .before .before .before .before .before .before .before .before),
+    )
 
 mul-next-3 : tie.Need-mul-next-3 Inv-loop2 μ-loop2 Inv-loop3 μ-loop3 Inv-loop5 μ-loop5 Inv-loop4 μ-loop4 Inv-loop μ-loop
-mul-next-3 c = omega (arith, within (c .before .before .before .before .before .before .before .before .before .before .before .before .before .before .before .before .before .before .before .before .before .before .before .before) ((c .before .before .before .before .before .before .before .before .before .before .before .before .before .before .before .before) .loop4 .c) (moving (c .before .before .before .before .before .before .before .before .before .before .before .before .before .before .before)))
+mul-next-3 c =
+    omega (
+      arith,
+      move-within
+          (c .before .before .before .before .before .before .before .before .before .before .before .before .before .before .before),
+    )
 
 element-set-from-next-2 : tie.Need-element-set-from-next-2 Inv-loop2 μ-loop2 Inv-loop3 μ-loop3 Inv-loop5 μ-loop5 Inv-loop4 μ-loop4 Inv-loop μ-loop
-element-set-from-next-2 c = omega (arith, within (c .before .before .before .before .before .before .before .before .before .before .before .before .before .before .before .before .before .before .before .before .before .before .before .before) ((c .before .before .before .before .before .before .before .before .before .before .before .before .before .before .before .before) .loop4 .c) (moving (c .before .before .before .before .before .before .before .before .before .before .before .before .before .before .before)))
+element-set-from-next-2 c =
+    omega (
+      arith,
+      move-within
+          (c .before .before .before .before .before .before .before .before .before .before .before .before .before .before .before),
+    )
 
 link-requires-2 : tie.Need-link-requires-2 Inv-loop2 μ-loop2 Inv-loop3 μ-loop3 Inv-loop5 μ-loop5 Inv-loop4 μ-loop4 Inv-loop μ-loop
 link-requires-2 c κs = tt
 
 add-j : tie.Need-add-j Inv-loop2 μ-loop2 Inv-loop3 μ-loop3 Inv-loop5 μ-loop5 Inv-loop4 μ-loop4 Inv-loop μ-loop
-add-j c = omega (arith, within (c .before .before .before .before .before .before .before .before .before .before .before .before .before .before .before .before .before .before .before .before .before .before .before .before .before) ((c .before .before .before .before .before .before .before .before .before .before .before .before .before .before .before .before .before) .loop4 .c) (moving (c .before .before .before .before .before .before .before .before .before .before .before .before .before .before .before .before)))
+add-j c =
+    omega (
+      arith,
+      move-within
+          (c .before .before .before .before .before .before .before .before .before .before .before .before .before .before .before .before),
+    )
 
 loop5-less : tie.Need-loop5-less Inv-loop2 μ-loop2 Inv-loop3 μ-loop3 Inv-loop5 μ-loop5 Inv-loop4 μ-loop4 Inv-loop μ-loop
 loop5-less c = omega arith
 
 loop5-again : tie.Need-loop5-again Inv-loop2 μ-loop2 Inv-loop3 μ-loop3 Inv-loop5 μ-loop5 Inv-loop4 μ-loop4 Inv-loop μ-loop
-loop5-again c = let k = (c .before .before .before .before .before .before .before .before .before .before .before .before .before .before .before .before .before .before .before .before .before .before .before .before .before) in
+loop5-again c =
+    let k = (c .before .before .before .before .before .before .before .before .before .before .before .before .before .before .before .before .before .before .before .before .before .before .before .before .before) in
     let s = (c .before .before .before .before .before .before .before .before .before .before .before .before .before .before .before .before .before .before .before .before .before .before .before .before) .loop .s in
     let fit = (c .before .before .before .before .before .before .before .before .before .before .before .before .before .before .before .before .before .before .before .before .before .before .before .before) .loop .inv .fits in
     let w = word (c .before .before .before .before .before .before .before .before .before .before .before .before .before .before .before .before .before .before .before .before .before .before .before .before) in
     let i = (c .before .before .before .before .before .before .before .before .before .before .before .before .before .before .before .before .before) .loop4 .c in
-    let h = there k i (moving (c .before .before .before .before .before .before .before .before .before .before .before .before .before .before .before .before)) in
-    let e = wire k i (moving (c .before .before .before .before .before .before .before .before .before .before .before .before .before .before .before .before)) in
+    let h = there k i (moving
+    (c .before .before .before .before .before .before .before .before .before .before .before .before .before .before .before .before)) in
+    let e = wire k i (moving
+    (c .before .before .before .before .before .before .before .before .before .before .before .before .before .before .before .before)) in
     let l = (c .before .before .before .before .before) .loop5 in
     let join = (c .before .before) .if4 in
     let inside : l .j < readAt k i .stations = omega arith in
@@ -544,29 +639,46 @@ loop5-again c = let k = (c .before .before .before .before .before .before .befo
     stop-read (img k) (net k) s fit i h _ e (l .j + 1) (join .below)
     (⊎-elim
     (λ d. inl (omega (arith, d .0 .taken), d .3 ∙ d .2 .ensures))
-    (λ d. inr (omega (arith, d .0 .left), d .1 ∙ (c .before .before .before .before .before .before .before .before) .full3 .ensures ∙ full-read (img k) (net k) s fit i h _ e))
+    (λ d. inr (
+      omega (arith, d .0 .left),
+      d .1 ∙ (c .before .before .before .before .before .before .before .before) .full3 .ensures ∙ full-read
+          (img k) (net k) s fit i h _ e,
+    ))
     (join .came)) in
     let next = (c .before) .after .ensures
     ∙ station-read (img k) (net k) s fit i h _ e w (l .j) inside (l .link) (join .below) (l .inv .2) (rw add-one at stop) in (
       omega arith,
-      row-turn (img k) (net k) s fit i h _ e w (s .cycles) (nodesBelow (img k) w s ((c .before .before .before .before .before .before .before .before .before .before .before .before .before .before .before .before .before .before .before .before .before .before .before .before .before .before .before .before) .nodes .result)) (l .j) inside (l .s) (l .inv .1) _ next,
+      row-turn (img k) (net k) s fit i h _ e w (s .cycles)
+          (nodesBelow (img k) w s
+          ((c .before .before .before .before .before .before .before .before .before .before .before .before .before .before .before .before .before .before .before .before .before .before .before .before .before .before .before .before) .nodes .result)) (l .j) inside (l .s) (l .inv .1) _ next,
       link-read (img k) (net k) s fit i h _ e (l .j) inside (c .link2 .result) (c .link2 .ensures),
     )
 
 array-read-takes : tie.Need-array-read-takes Inv-loop2 μ-loop2 Inv-loop3 μ-loop3 Inv-loop5 μ-loop5 Inv-loop4 μ-loop4 Inv-loop μ-loop
-array-read-takes c = omega (arith, within (c .before .before .before .before .before .before .before .before .before .before .before .before .before .before .before .before .before .before .before .before .before) ((c .before .before .before .before .before .before .before .before .before .before .before .before .before) .loop4 .c) (moving (c .before .before .before .before .before .before .before .before .before .before .before .before)))
+array-read-takes c = omega (arith, move-within (c .before .before .before .before .before .before .before .before .before .before .before .before))
 
 after-requires-2 : tie.Need-after-requires-2 Inv-loop2 μ-loop2 Inv-loop3 μ-loop3 Inv-loop5 μ-loop5 Inv-loop4 μ-loop4 Inv-loop μ-loop
 after-requires-2 c κs = tt
 
 mul-next-4 : tie.Need-mul-next-4 Inv-loop2 μ-loop2 Inv-loop3 μ-loop3 Inv-loop5 μ-loop5 Inv-loop4 μ-loop4 Inv-loop μ-loop
-mul-next-4 c = omega (arith, within (c .before .before .before .before .before .before .before .before .before .before .before .before .before .before .before .before .before .before .before .before .before .before .before .before) ((c .before .before .before .before .before .before .before .before .before .before .before .before .before .before .before .before) .loop4 .c) (moving (c .before .before .before .before .before .before .before .before .before .before .before .before .before .before .before)))
+mul-next-4 c =
+    omega (
+      arith,
+      move-within
+          (c .before .before .before .before .before .before .before .before .before .before .before .before .before .before .before),
+    )
 
 element-set-from-next-3 : tie.Need-element-set-from-next-3 Inv-loop2 μ-loop2 Inv-loop3 μ-loop3 Inv-loop5 μ-loop5 Inv-loop4 μ-loop4 Inv-loop μ-loop
-element-set-from-next-3 c = omega (arith, within (c .before .before .before .before .before .before .before .before .before .before .before .before .before .before .before .before .before .before .before .before .before .before .before .before) ((c .before .before .before .before .before .before .before .before .before .before .before .before .before .before .before .before) .loop4 .c) (moving (c .before .before .before .before .before .before .before .before .before .before .before .before .before .before .before)))
+element-set-from-next-3 c =
+    omega (
+      arith,
+      move-within
+          (c .before .before .before .before .before .before .before .before .before .before .before .before .before .before .before),
+    )
 
 array-read-pending-after : tie.Need-array-read-pending-after Inv-loop2 μ-loop2 Inv-loop3 μ-loop3 Inv-loop5 μ-loop5 Inv-loop4 μ-loop4 Inv-loop μ-loop
-array-read-pending-after c = omega (arith, within (c .before .before .before .before .before .before .before .before .before .before .before .before .before .before .before .before .before .before .before .before .before .before .before) ((c .before .before .before .before .before .before .before .before .before .before .before .before .before .before .before) .loop4 .c) (moving (c .before .before .before .before .before .before .before .before .before .before .before .before .before .before)))
+array-read-pending-after c =
+    omega (arith, move-within (c .before .before .before .before .before .before .before .before .before .before .before .before .before .before))
 
 pending-after-requires : tie.Need-pending-after-requires Inv-loop2 μ-loop2 Inv-loop3 μ-loop3 Inv-loop5 μ-loop5 Inv-loop4 μ-loop4 Inv-loop μ-loop
 pending-after-requires c κs = tt
@@ -575,26 +687,40 @@ mark-requires : tie.Need-mark-requires Inv-loop2 μ-loop2 Inv-loop3 μ-loop3 Inv
 mark-requires c κs = tt
 
 element-write-s : tie.Need-element-write-s Inv-loop2 μ-loop2 Inv-loop3 μ-loop3 Inv-loop5 μ-loop5 Inv-loop4 μ-loop4 Inv-loop μ-loop
-element-write-s c = omega (arith, within (c .before .before .before .before .before .before .before .before .before .before .before .before .before .before .before .before .before .before .before .before .before .before .before .before .before) ((c .before .before .before .before .before .before .before .before .before .before .before .before .before .before .before .before .before) .loop4 .c) (moving (c .before .before .before .before .before .before .before .before .before .before .before .before .before .before .before .before)))
+element-write-s c =
+    omega (
+      arith,
+      move-within
+          (c .before .before .before .before .before .before .before .before .before .before .before .before .before .before .before .before),
+    )
 
 add-c-2 : tie.Need-add-c-2 Inv-loop2 μ-loop2 Inv-loop3 μ-loop3 Inv-loop5 μ-loop5 Inv-loop4 μ-loop4 Inv-loop μ-loop
-add-c-2 c = omega (arith, within (c .before .before .before .before .before .before .before .before .before .before .before .before .before .before .before .before .before .before .before .before .before .before .before .before .before) ((c .before .before .before .before .before .before .before .before .before .before .before .before .before .before .before .before .before) .loop4 .c) (moving (c .before .before .before .before .before .before .before .before .before .before .before .before .before .before .before .before)))
+add-c-2 c =
+    omega (
+      arith,
+      move-within
+          (c .before .before .before .before .before .before .before .before .before .before .before .before .before .before .before .before),
+    )
 
 loop4-less : tie.Need-loop4-less Inv-loop2 μ-loop2 Inv-loop3 μ-loop3 Inv-loop5 μ-loop5 Inv-loop4 μ-loop4 Inv-loop μ-loop
 loop4-less c = omega arith
 
 loop4-again : tie.Need-loop4-again Inv-loop2 μ-loop2 Inv-loop3 μ-loop3 Inv-loop5 μ-loop5 Inv-loop4 μ-loop4 Inv-loop μ-loop
-loop4-again c = let k = (c .before .before .before .before .before .before .before .before .before .before .before .before .before .before .before .before .before .before .before .before .before .before .before .before .before) in
+loop4-again c =
+    let k = (c .before .before .before .before .before .before .before .before .before .before .before .before .before .before .before .before .before .before .before .before .before .before .before .before .before) in
     let s = (c .before .before .before .before .before .before .before .before .before .before .before .before .before .before .before .before .before .before .before .before .before .before .before .before) .loop .s in
     let fit = (c .before .before .before .before .before .before .before .before .before .before .before .before .before .before .before .before .before .before .before .before .before .before .before .before) .loop .inv .fits in
     let w = word (c .before .before .before .before .before .before .before .before .before .before .before .before .before .before .before .before .before .before .before .before .before .before .before .before) in
     let i = (c .before .before .before .before .before .before .before .before .before .before .before .before .before .before .before .before .before) .loop4 .c in
-    let h = there k i (moving (c .before .before .before .before .before .before .before .before .before .before .before .before .before .before .before .before)) in
-    let e = wire k i (moving (c .before .before .before .before .before .before .before .before .before .before .before .before .before .before .before .before)) in
+    let h = there k i (moving
+    (c .before .before .before .before .before .before .before .before .before .before .before .before .before .before .before .before)) in
+    let e = wire k i (moving
+    (c .before .before .before .before .before .before .before .before .before .before .before .before .before .before .before .before)) in
     let l = (c .before .before .before .before .before) .loop5 in
     let end : l .j ≡ readAt k i .stations = omega arith in
     let gate = (c .before .before .before .before .before .before .before .before .before .before .before .before .before .before .before .before .before .before .before) .loop3 in
-    let n : gate .n ≡ nodes (img k) = omega (arith, (c .before .before .before .before .before .before .before .before .before .before .before .before .before .before .before .before .before .before .before .before .before .before .before .before .before .before .before .before) .nodes .ensures, gate .inv .0, (c .before .before .before .before .before .before .before .before .before .before .before .before .before .before .before .before .before .before) .loop3-test .left) in
+    let n : gate .n ≡ nodes (img k) = omega
+    (arith, (c .before .before .before .before .before .before .before .before .before .before .before .before .before .before .before .before .before .before .before .before .before .before .before .before .before .before .before .before) .nodes .ensures, gate .inv .0, (c .before .before .before .before .before .before .before .before .before .before .before .before .before .before .before .before .before .before) .loop3-test .left) in
     let ends = ends-read (img k) (net k) s fit i h _ e w (gate .fires) (gate .inv .2 ∙ ap (firesBelow (img k) w s) n) in
     let full = (c .before .before .before .before .before .before .before .before) .full3 .ensures ∙ full-read (img k) (net k) s fit i h _ e in
     let link = last-read (img k) (net k) s fit i h _ e w (l .link) (l .inv .2 ∙ ap (linkIn (img k) s i) end) in
@@ -604,7 +730,8 @@ loop4-again c = let k = (c .before .before .before .before .before .before .befo
     (λ d. inl (omega (arith, d .0 .taken), d .3 ∙ d .2 .ensures ∙ first-place s i))
     (λ d. inr (omega (arith, d .0 .left), d .1 ∙ full))
     ((c .before .before .before .before .before .before) .if3 .came)) in
-    let ns = nodesBelow (img k) w s ((c .before .before .before .before .before .before .before .before .before .before .before .before .before .before .before .before .before .before .before .before .before .before .before .before .before .before .before .before) .nodes .result) in
+    let ns = nodesBelow (img k) w s
+    ((c .before .before .before .before .before .before .before .before .before .before .before .before .before .before .before .before .before .before .before .before .before .before .before .before .before .before .before .before) .nodes .result) in
     let join = (c .before .before) .if5 in (
       omega arith,
       channel-turn (img k) (net k) s fit i h _ e w (s .cycles) ns (l .s) (join .s)
@@ -635,16 +762,21 @@ loop-again c = let k = (c .before .before .before .before .before .before .befor
     let words = (c .before .before .before .before .before .before .before .before .before .before .before .before .before .before .before) .args .words .now in
     let t = (c .before .before .before .before .before .before .before .before) .loop .t in
     let l = (c .before) .loop4 in
-    let all : l .c ≡ channels (img k) = omega (arith, (c .before .before .before .before .before .before .before .before .before .before .before) .channels .ensures) in
+    let all : l .c ≡ channels (img k) = omega
+    (arith, (c .before .before .before .before .before .before .before .before .before .before .before) .channels .ensures) in
     let moved = l .inv .1
-    ∙ ap (λ (n : ℕ). movedBelow (img k) w s (s .cycles) (nodesBelow (img k) w s n) (l .c) (8 * l .c)) ((c .before .before .before .before .before .before .before .before .before .before .before .before) .nodes .ensures)
+    ∙ ap (λ (n : ℕ). movedBelow (img k) w s (s .cycles) (nodesBelow (img k) w s n) (l .c) (8 * l .c))
+    ((c .before .before .before .before .before .before .before .before .before .before .before .before) .nodes .ensures)
     ∙ ap (λ (c : ℕ). movedBelow (img k) w s (s .cycles) (nodesBelow (img k) w s (nodes (img k))) c (8 * c)) all in
     let e = cycle-turn (img k) w s (made .fits) (l .s) moved in
     record {
       done = omega arith;
       state =
-          e ∙ ap (stateAfter (img k) w) (made .state) ∙ sym (after-next (img k) ((c .before .before .before .before .before .before .before .before .before .before .before .before .before .before .before) .args .state) words t (omega arith))
-          ∙ ap (λ (n : ℕ). after (img k) ((c .before .before .before .before .before .before .before .before .before .before .before .before .before .before .before) .args .state) (take n words)) (sym (add-one t));
+          e ∙ ap (stateAfter (img k) w) (made .state) ∙ sym
+          (after-next (img k) ((c .before .before .before .before .before .before .before .before .before .before .before .before .before .before .before) .args .state) words t (omega arith))
+          ∙ ap (λ (n : ℕ). after (img k)
+          ((c .before .before .before .before .before .before .before .before .before .before .before .before .before .before .before) .args .state)
+          (take n words)) (sym (add-one t));
       fits = rw e (fitting-next (img k) (net k) w s (made .fits) (omega (arith, made .count)));
       count = omega (arith, made .count);
     }
@@ -653,7 +785,8 @@ returns : tie.Need-returns Inv-loop2 μ-loop2 Inv-loop3 μ-loop3 Inv-loop5 μ-lo
 returns c = let l = (c .before) .loop in
     let words = (c .before .before .before .before .before .before .before .before) .args .words .now in
     let e : l .t ≡ length words = omega (arith, l .inv .done) in
-    l .inv .state ∙ ap (after (img (c .before .before)) ((c .before .before .before .before .before .before .before .before) .args .state)) (ap (λ (n : ℕ). take n words) e ∙ take-length words)
+    l .inv .state ∙ ap (after (img (c .before .before)) ((c .before .before .before .before .before .before .before .before) .args .state))
+    (ap (λ (n : ℕ). take n words) e ∙ take-length words)
 
 pub cycles-spec : {M : Type 1} → statement M
 cycles-spec =

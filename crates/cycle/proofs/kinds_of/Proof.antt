@@ -50,7 +50,8 @@ loop-again c = let l = c .before .before in
     let h : l .loop .n < 64 = omega (arith, few (l .before)) in (
       omega arith,
       rw add-one
-          (kinds-turn img (l .loop .n) h (l .loop .kinds) (l .loop .inv .1) (c .core-at .result .kind) (ap (λ (x : Core). x .kind) (c .core-at .ensures))),
+          (kinds-turn img (l .loop .n) h (l .loop .kinds) (l .loop .inv .1) (c .core-at .result .kind)
+          (ap (λ (x : Core). x .kind) (c .core-at .ensures))),
     )
 
 returns : tie.Need-returns Inv-loop μ-loop

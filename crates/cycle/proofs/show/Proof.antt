@@ -24,7 +24,8 @@ use Rattle.cycle.proofs.show.Tie as tie
 
 abbrev Inv-loop : tie.InvT-loop
 Inv-loop image letters₀ values₀ state channels c₀ letters values c =
-    (c ≤ channels) × (letters ≡ tableOver (λ k. seenAt image state k .letter) c letters₀) × (values ≡ tableOver (λ k. seenAt image state k .value) c values₀)
+    (c ≤ channels) × (letters ≡ tableOver (λ k. seenAt image state k .letter) c letters₀)
+    × (values ≡ tableOver (λ k. seenAt image state k .value) c values₀)
 
 abbrev μ-loop : tie.MeasureT-loop
 μ-loop image letters₀ values₀ state channels c₀ letters values c = channels - c
@@ -38,13 +39,15 @@ within :
     → let w = c .channel-at .result in (c .before .before .loop .c < 96) × (w .from < 64) × (w .to < 64) × (w .port < 3) × (w .stations ≤ 8)
 within c =
     let s = (c .before .before .before .before .before .before) in
-    let b = wire-within (s .args .image .now) (s .pre .0) (c .before .before .loop .c) (there (c .before)) (c .channel-at .result) (c .channel-at .ensures) in
+    let b = wire-within (s .args .image .now) (s .pre .0) (c .before .before .loop .c) (there (c .before)) (c .channel-at .result)
+    (c .channel-at .ensures) in
     (omega (arith, there (c .before), s .pre .0 .few-channels), b .0, b .1, b .2, b .3)
 
 -- the arrays are as long as they were
 long :
     (c : tie.At-loop Inv-loop μ-loop)
-    → (length (c .loop .letters) ≡ length ((c .before .before .before .before) .args .letters .now)) × (length (c .loop .values) ≡ length ((c .before .before .before .before) .args .values .now))
+    → (length (c .loop .letters) ≡ length ((c .before .before .before .before) .args .letters .now))
+    × (length (c .loop .values) ≡ length ((c .before .before .before .before) .args .values .now))
 long c =
     let s = (c .before .before .before .before) in
     let n = c .before .channels .ensures in
@@ -112,13 +115,27 @@ reading-requires : tie.Need-reading-requires Inv-loop μ-loop
 reading-requires c κs = tt
 
 slice-write-letters : tie.Need-slice-write-letters Inv-loop μ-loop
-slice-write-letters c = omega (arith, long (c .before .before .before .before .before .before .before .before .before .before .before .before), there (c .before .before .before .before .before .before .before .before .before .before .before), (c .before .before .before .before .before .before .before .before .before .before .before .before .before .before .before .before) .pre .1 .1)
+slice-write-letters c =
+    omega (
+      arith,
+      long (c .before .before .before .before .before .before .before .before .before .before .before .before),
+      there
+          (c .before .before .before .before .before .before .before .before .before .before .before),
+      (c .before .before .before .before .before .before .before .before .before .before .before .before .before .before .before .before) .pre .1 .1,
+    )
 
 mul-value : tie.Need-mul-value Inv-loop μ-loop
 mul-value c = omega (arith, within (c .before .before .before .before .before .before .before .before .before .before))
 
 slice-set-from-value : tie.Need-slice-set-from-value Inv-loop μ-loop
-slice-set-from-value c = omega (arith, long (c .before .before .before .before .before .before .before .before .before .before .before .before), there (c .before .before .before .before .before .before .before .before .before .before .before), (c .before .before .before .before .before .before .before .before .before .before .before .before .before .before .before .before) .pre .1 .1)
+slice-set-from-value c =
+    omega (
+      arith,
+      long (c .before .before .before .before .before .before .before .before .before .before .before .before),
+      there
+          (c .before .before .before .before .before .before .before .before .before .before .before),
+      (c .before .before .before .before .before .before .before .before .before .before .before .before .before .before .before .before) .pre .1 .1,
+    )
 
 add-c : tie.Need-add-c Inv-loop μ-loop
 add-c c = omega (arith, within (c .before .before .before .before .before .before .before .before .before .before))
@@ -127,13 +144,15 @@ loop-less : tie.Need-loop-less Inv-loop μ-loop
 loop-less c = omega arith
 
 loop-again : tie.Need-loop-again Inv-loop μ-loop
-loop-again c = let s = (c .before .before .before .before .before .before .before .before .before .before .before .before .before .before .before .before) in
+loop-again c =
+    let s = (c .before .before .before .before .before .before .before .before .before .before .before .before .before .before .before .before) in
     let a = s .args in
     let fit = s .pre .1 .0 in
     let l = (c .before .before .before .before .before .before .before .before .before .before .before .before) .loop in
     let h = there (c .before .before .before .before .before .before .before .before .before .before .before) in
     let w = (c .before .before .before .before .before .before .before .before .before .before) .channel-at in
-    let f : SFits w32 (getD (a .t2 .nodes) (w .result .from) noNode .value) = record { sfits = (c .before .before .before .before) .struct-told .given .0 .1 } in
+    let f : SFits w32 (getD (a .t2 .nodes) (w .result .from) noNode .value)
+    = record { sfits = (c .before .before .before .before) .struct-told .given .0 .1 } in
     let g : SFits w32 ((c .before) .reading .result .value) = record { sfits = c .struct-told2 .given .1 .0 .1 } in
     let join = (c .before .before .before) .if1 in
     let link : token (join .link) ≡ arriving (channelIn (a .image .now) (a .t2) (l .c)) =
@@ -148,8 +167,10 @@ loop-again c = let s = (c .before .before .before .before .before .before .befor
     let m : l .c < length (a .values .now) = omega (arith, h, s .pre .1 .1) in
     let k : l .c + 1 ≤ (c .before .before .before .before .before .before .before .before .before .before .before .before .before) .channels .result = omega (arith, h, (c .before .before .before .before .before .before .before .before .before .before .before .before .before) .channels .ensures) in (
       k,
-      written (λ k. seenAt (a .image .now) (a .t2) k .letter) (l .c) (a .letters .now) n (l .letters) (l .inv .1) _ (ap (λ (x : Reading). x .letter) seen),
-      written (λ k. seenAt (a .image .now) (a .t2) k .value) (l .c) (a .values .now) m (l .values) (l .inv .2) _ (toZ-ofZ g ∙ ap (λ (x : Reading). x .value) seen),
+      written (λ k. seenAt (a .image .now) (a .t2) k .letter) (l .c) (a .letters .now) n (l .letters) (l .inv .1) _
+          (ap (λ (x : Reading). x .letter) seen),
+      written (λ k. seenAt (a .image .now) (a .t2) k .value) (l .c) (a .values .now) m (l .values) (l .inv .2) _
+          (toZ-ofZ g ∙ ap (λ (x : Reading). x .value) seen),
     )
 
 same-length : tie.Need-same-length Inv-loop μ-loop

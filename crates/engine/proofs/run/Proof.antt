@@ -44,7 +44,10 @@ refusal-requires c κs = tt
 returns : tie.Need-returns
 returns c = let a = (c .before .before .before .before) .args in
     let r = (c .before) .refusal .ensures in
-    record { answered = ap (λ (n : ℕ). record { steps = 0; number = n; state = a .state }) r ∙ run-none (a .image .now) (a .state) (a .words .now) (λ e. c .if1 .taken (r ∙ e)) }
+    record {
+      answered = ap (λ (n : ℕ). record { steps = 0; number = n; state = a .state }) r ∙ run-none (a .image .now) (a .state) (a .words .now)
+          (λ e. c .if1 .taken (r ∙ e));
+    }
 
 nodes-requires : tie.Need-nodes-requires
 nodes-requires c κs = tt
