@@ -120,6 +120,19 @@ within c i h =
     let b = wire-within (img c) (net c) i k _ (wire c i h) in
     (omega (arith, few c), b .0, b .1, b .2, b .3)
 
+-- the cycle that a channel is scanned in, a node is gated in, a channel is moved in
+abbrev cycle2 : tie.In-loop2 Inv-loop2 μ-loop2 Inv-loop3 μ-loop3 Inv-loop5 μ-loop5 Inv-loop4 μ-loop4 Inv-loop μ-loop
+    → tie.At-loop Inv-loop2 μ-loop2 Inv-loop3 μ-loop3 Inv-loop5 μ-loop5 Inv-loop4 μ-loop4 Inv-loop μ-loop
+cycle2 c = c .before .before .before .before
+
+abbrev cycle3 : tie.In-loop3 Inv-loop2 μ-loop2 Inv-loop3 μ-loop3 Inv-loop5 μ-loop5 Inv-loop4 μ-loop4 Inv-loop μ-loop
+    → tie.At-loop Inv-loop2 μ-loop2 Inv-loop3 μ-loop3 Inv-loop5 μ-loop5 Inv-loop4 μ-loop4 Inv-loop μ-loop
+cycle3 c = c .before .before .before .before .before .before
+
+abbrev cycle4 : tie.In-loop4 Inv-loop2 μ-loop2 Inv-loop3 μ-loop3 Inv-loop5 μ-loop5 Inv-loop4 μ-loop4 Inv-loop μ-loop
+    → tie.At-loop Inv-loop2 μ-loop2 Inv-loop3 μ-loop3 Inv-loop5 μ-loop5 Inv-loop4 μ-loop4 Inv-loop μ-loop
+cycle4 c = c .before .before .before .before .before .before .before .before
+
 -- the channel that is scanned, or moved, is one of the image's
 scanned : (c : tie.In-loop2 Inv-loop2 μ-loop2 Inv-loop3 μ-loop3 Inv-loop5 μ-loop5 Inv-loop4 μ-loop4 Inv-loop μ-loop) → c .before .loop2 .c <
     (c .before .before .before .before .before .before .before) .channels .result
@@ -310,15 +323,16 @@ loop2-less c = omega arith
 
 loop2-again : tie.Need-loop2-again Inv-loop2 μ-loop2 Inv-loop3 μ-loop3 Inv-loop5 μ-loop5 Inv-loop4 μ-loop4 Inv-loop μ-loop
 loop2-again c =
-    let k = (c .before .before .before .before .before .before .before .before .before .before .before .before .before .before .before .before .before .before .before .before) in
-    let s = (c .before .before .before .before .before .before .before .before .before .before .before .before .before .before .before .before .before .before .before) .loop .s in
-    let fit = (c .before .before .before .before .before .before .before .before .before .before .before .before .before .before .before .before .before .before .before) .loop .inv .fits in
-    let i = (c .before .before .before .before .before .before .before .before .before .before .before .before .before .before .before .before) .loop2 .c in
+    let place = c .before .before .before .before .before .before .before .before .before .before .before .before .before .before .before in
+    let k = (cycle2 place .before) in
+    let s = cycle2 place .loop .s in
+    let fit = cycle2 place .loop .inv .fits in
+    let i = (place .before) .loop2 .c in
     let h = there k i (scanned
-    (c .before .before .before .before .before .before .before .before .before .before .before .before .before .before .before)) in
+    place) in
     let e = wire k i (scanned
-    (c .before .before .before .before .before .before .before .before .before .before .before .before .before .before .before)) in
-    let inv = (c .before .before .before .before .before .before .before .before .before .before .before .before .before .before .before .before) .loop2 .inv in
+    place) in
+    let inv = (place .before) .loop2 .inv in
     let join = (c .before .before .before .before .before) .if1 in
     let f : SFits w32 (getD (s .nodes) (readAt k i .from) noNode .value)
     = record { sfits = (c .before .before .before .before .before .before .before) .struct-told .given .0 .1 } in
@@ -403,13 +417,15 @@ array-copy-out-fired-3 c =
 
 fired-requires : tie.Need-fired-requires Inv-loop2 μ-loop2 Inv-loop3 μ-loop3 Inv-loop5 μ-loop5 Inv-loop4 μ-loop4 Inv-loop μ-loop
 unfolding nodeAt
-fired-requires c κs = let k = (c .before .before .before .before .before .before .before .before .before .before .before .before .before .before) in
-    let s = (c .before .before .before .before .before .before .before .before .before .before .before .before .before) .loop .s in
-    let n = (c .before .before .before .before .before .before .before .before) .loop3 .n in
+fired-requires c κs =
+    let place = c .before .before .before .before .before .before .before in
+    let k = (cycle3 place .before) in
+    let s = cycle3 place .loop .s in
+    let n = (place .before) .loop3 .n in
     let there : n < nodes (img k) = omega
-    (arith, (c .before .before .before .before .before .before .before .before .before .before .before .before .before .before .before .before .before) .nodes .ensures) in
+    (arith, (cycle3 place .before .before .before .before) .nodes .ensures) in
     let h : getD (s .nodes) n noNode .firings < 1000000 = omega
-    (arith, (c .before .before .before .before .before .before .before .before .before .before .before .before .before) .loop .inv .fits .fired n there, (c .before .before .before .before .before .before .before .before .before .before .before .before .before) .loop .inv .count) in
+    (arith, cycle3 place .loop .inv .fits .fired n there, cycle3 place .loop .inv .count) in
     h
 
 mul-next : tie.Need-mul-next Inv-loop2 μ-loop2 Inv-loop3 μ-loop3 Inv-loop5 μ-loop5 Inv-loop4 μ-loop4 Inv-loop μ-loop
@@ -431,17 +447,19 @@ loop3-less : tie.Need-loop3-less Inv-loop2 μ-loop2 Inv-loop3 μ-loop3 Inv-loop5
 loop3-less c = omega arith
 
 loop3-again : tie.Need-loop3-again Inv-loop2 μ-loop2 Inv-loop3 μ-loop3 Inv-loop5 μ-loop5 Inv-loop4 μ-loop4 Inv-loop μ-loop
-loop3-again c = let k = (c .before .before .before .before .before .before .before .before .before) in
-    let s = (c .before .before .before .before .before .before .before .before) .loop .s in
-    let fit = (c .before .before .before .before .before .before .before .before) .loop .inv .fits in
-    let w = word (c .before .before .before .before .before .before .before .before) in
-    let scan = (c .before .before .before .before .before) .loop2 in
-    let l = (c .before .before .before) .loop3 in
+loop3-again c =
+    let place = c .before .before in
+    let k = (cycle3 place .before) in
+    let s = cycle3 place .loop .s in
+    let fit = cycle3 place .loop .inv .fits in
+    let w = word (cycle3 place) in
+    let scan = (place .before .before .before) .loop2 in
+    let l = (place .before) .loop3 in
     let n = l .n in
     let there : n < nodes (img k) = omega
-    (arith, (c .before .before .before .before .before .before .before .before .before .before .before .before) .nodes .ensures) in
+    (arith, (cycle3 place .before .before .before .before) .nodes .ensures) in
     let all : scan .c ≡ channels (img k) = omega
-    (arith, (c .before .before .before .before .before .before .before .before .before .before .before) .channels .ensures) in
+    (arith, (cycle3 place .before .before .before) .channels .ensures) in
     let join = c .if2 in
     let test = fires-read (img k) (net k) s fit w n there (scan .starved) (scan .blocked)
     (scan .inv .1 ∙ ap (starvedBelow (img k) s) all) (scan .inv .3 ∙ ap (blockedBelow (img k) s) all) _ ((c .before) .stalls .ensures) in
@@ -516,19 +534,20 @@ full-requires-4 c κs = tt
 
 loop5-holds : tie.Need-loop5-holds Inv-loop2 μ-loop2 Inv-loop3 μ-loop3 Inv-loop5 μ-loop5 Inv-loop4 μ-loop4 Inv-loop μ-loop
 loop5-holds c =
-    let k = (c .before .before .before .before .before .before .before .before .before .before .before .before .before .before .before .before .before .before .before) in
-    let s = (c .before .before .before .before .before .before .before .before .before .before .before .before .before .before .before .before .before .before) .loop .s in
-    let fit = (c .before .before .before .before .before .before .before .before .before .before .before .before .before .before .before .before .before .before) .loop .inv .fits in
-    let w = word (c .before .before .before .before .before .before .before .before .before .before .before .before .before .before .before .before .before .before) in
-    let l = (c .before .before .before .before .before .before .before .before .before .before .before) .loop4 in
+    let place = c .before .before .before .before .before .before .before .before .before .before in
+    let k = (cycle4 place .before) in
+    let s = cycle4 place .loop .s in
+    let fit = cycle4 place .loop .inv .fits in
+    let w = word (cycle4 place) in
+    let l = (place .before) .loop4 in
     let i = l .c in
-    let h = there k i (moving (c .before .before .before .before .before .before .before .before .before .before)) in
-    let e = wire k i (moving (c .before .before .before .before .before .before .before .before .before .before)) in
+    let h = there k i (moving place) in
+    let e = wire k i (moving place) in
     let f : SFits w32 (getD (s .nodes) (readAt k i .from) noNode .value) = record { sfits = (c .before) .struct-told3 .given .0 .1 } in (
       omega arith,
       l .inv .1 ∙ ap (movedBelow (img k) w s (s .cycles)
           (nodesBelow (img k) w s
-          ((c .before .before .before .before .before .before .before .before .before .before .before .before .before .before .before .before .before .before .before .before .before .before) .nodes .result)) i) (sym (add-zero (8 * i))),
+          ((cycle4 place .before .before .before .before) .nodes .result)) i) (sym (add-zero (8 * i))),
       source-read (img k) (net k) s fit i h _ e _ (toZ-ofZ f),
     )
 
@@ -623,15 +642,16 @@ loop5-less c = omega arith
 
 loop5-again : tie.Need-loop5-again Inv-loop2 μ-loop2 Inv-loop3 μ-loop3 Inv-loop5 μ-loop5 Inv-loop4 μ-loop4 Inv-loop μ-loop
 loop5-again c =
-    let k = (c .before .before .before .before .before .before .before .before .before .before .before .before .before .before .before .before .before .before .before .before .before .before .before .before .before) in
-    let s = (c .before .before .before .before .before .before .before .before .before .before .before .before .before .before .before .before .before .before .before .before .before .before .before .before) .loop .s in
-    let fit = (c .before .before .before .before .before .before .before .before .before .before .before .before .before .before .before .before .before .before .before .before .before .before .before .before) .loop .inv .fits in
-    let w = word (c .before .before .before .before .before .before .before .before .before .before .before .before .before .before .before .before .before .before .before .before .before .before .before .before) in
-    let i = (c .before .before .before .before .before .before .before .before .before .before .before .before .before .before .before .before .before) .loop4 .c in
+    let place = c .before .before .before .before .before .before .before .before .before .before .before .before .before .before .before .before in
+    let k = (cycle4 place .before) in
+    let s = cycle4 place .loop .s in
+    let fit = cycle4 place .loop .inv .fits in
+    let w = word (cycle4 place) in
+    let i = (place .before) .loop4 .c in
     let h = there k i (moving
-    (c .before .before .before .before .before .before .before .before .before .before .before .before .before .before .before .before)) in
+    place) in
     let e = wire k i (moving
-    (c .before .before .before .before .before .before .before .before .before .before .before .before .before .before .before .before)) in
+    place) in
     let l = (c .before .before .before .before .before) .loop5 in
     let join = (c .before .before) .if4 in
     let inside : l .j < readAt k i .stations = omega arith in
@@ -650,7 +670,7 @@ loop5-again c =
       omega arith,
       row-turn (img k) (net k) s fit i h _ e w (s .cycles)
           (nodesBelow (img k) w s
-          ((c .before .before .before .before .before .before .before .before .before .before .before .before .before .before .before .before .before .before .before .before .before .before .before .before .before .before .before .before) .nodes .result)) (l .j) inside (l .s) (l .inv .1) _ next,
+          ((cycle4 place .before .before .before .before) .nodes .result)) (l .j) inside (l .s) (l .inv .1) _ next,
       link-read (img k) (net k) s fit i h _ e (l .j) inside (c .link2 .result) (c .link2 .ensures),
     )
 
@@ -707,20 +727,21 @@ loop4-less c = omega arith
 
 loop4-again : tie.Need-loop4-again Inv-loop2 μ-loop2 Inv-loop3 μ-loop3 Inv-loop5 μ-loop5 Inv-loop4 μ-loop4 Inv-loop μ-loop
 loop4-again c =
-    let k = (c .before .before .before .before .before .before .before .before .before .before .before .before .before .before .before .before .before .before .before .before .before .before .before .before .before) in
-    let s = (c .before .before .before .before .before .before .before .before .before .before .before .before .before .before .before .before .before .before .before .before .before .before .before .before) .loop .s in
-    let fit = (c .before .before .before .before .before .before .before .before .before .before .before .before .before .before .before .before .before .before .before .before .before .before .before .before) .loop .inv .fits in
-    let w = word (c .before .before .before .before .before .before .before .before .before .before .before .before .before .before .before .before .before .before .before .before .before .before .before .before) in
-    let i = (c .before .before .before .before .before .before .before .before .before .before .before .before .before .before .before .before .before) .loop4 .c in
+    let place = c .before .before .before .before .before .before .before .before .before .before .before .before .before .before .before .before in
+    let k = (cycle4 place .before) in
+    let s = cycle4 place .loop .s in
+    let fit = cycle4 place .loop .inv .fits in
+    let w = word (cycle4 place) in
+    let i = (place .before) .loop4 .c in
     let h = there k i (moving
-    (c .before .before .before .before .before .before .before .before .before .before .before .before .before .before .before .before)) in
+    place) in
     let e = wire k i (moving
-    (c .before .before .before .before .before .before .before .before .before .before .before .before .before .before .before .before)) in
+    place) in
     let l = (c .before .before .before .before .before) .loop5 in
     let end : l .j ≡ readAt k i .stations = omega arith in
-    let gate = (c .before .before .before .before .before .before .before .before .before .before .before .before .before .before .before .before .before .before .before) .loop3 in
+    let gate = (place .before .before .before) .loop3 in
     let n : gate .n ≡ nodes (img k) = omega
-    (arith, (c .before .before .before .before .before .before .before .before .before .before .before .before .before .before .before .before .before .before .before .before .before .before .before .before .before .before .before .before) .nodes .ensures, gate .inv .0, (c .before .before .before .before .before .before .before .before .before .before .before .before .before .before .before .before .before .before) .loop3-test .left) in
+    (arith, (cycle4 place .before .before .before .before) .nodes .ensures, gate .inv .0, (place .before .before) .loop3-test .left) in
     let ends = ends-read (img k) (net k) s fit i h _ e w (gate .fires) (gate .inv .2 ∙ ap (firesBelow (img k) w s) n) in
     let full = (c .before .before .before .before .before .before .before .before) .full3 .ensures ∙ full-read (img k) (net k) s fit i h _ e in
     let link = last-read (img k) (net k) s fit i h _ e w (l .link) (l .inv .2 ∙ ap (linkIn (img k) s i) end) in
@@ -731,7 +752,7 @@ loop4-again c =
     (λ d. inr (omega (arith, d .0 .left), d .1 ∙ full))
     ((c .before .before .before .before .before .before) .if3 .came)) in
     let ns = nodesBelow (img k) w s
-    ((c .before .before .before .before .before .before .before .before .before .before .before .before .before .before .before .before .before .before .before .before .before .before .before .before .before .before .before .before) .nodes .result) in
+    ((cycle4 place .before .before .before .before) .nodes .result) in
     let join = (c .before .before) .if5 in (
       omega arith,
       channel-turn (img k) (net k) s fit i h _ e w (s .cycles) ns (l .s) (join .s)
