@@ -36,7 +36,9 @@ use Rattle.cycle.specs.Cycle.{inputAt, stateAfter, after}
 use Rattle.state.specs.Fitting.{Fitting}
 use Rattle.cycle.specs.Parts.{starvedBelow, broughtBelow, blockedBelow, firesBelow, nodesBelow, movedBelow}
 use Rattle.cycle.specs.PartsLaws.{linkIn, stopIn, wire-read, wire-within}
-use Rattle.cycle.specs.Turns.{source-read, arriving-read, stop-read, full-read, input-read, held-read, starved-read, brought-read, blocked-read, station-read, row-turn, link-read, last-read, ends-read, mark-read, queue-read, queue-idle, channel-turn, fires-read, fired-read, gated-turn, cycle-turn, after-next}
+use Rattle.cycle.specs.Turns.{source-read, arriving-read, stop-read, full-read, input-read, held-read, starved-read, brought-read, blocked-read}
+use Rattle.cycle.specs.Turns.{station-read, row-turn, link-read, last-read, ends-read, mark-read, queue-read, queue-idle, channel-turn}
+use Rattle.cycle.specs.Turns.{fires-read, fired-read, gated-turn, cycle-turn, after-next}
 use Rattle.cycle.specs.KeptLaws.{fitting-next}
 use Rattle.cycle.proofs.cycles.Statement.{statement}
 use Rattle.cycle.proofs.cycles.Tie as tie
@@ -776,11 +778,13 @@ loop-less : tie.Need-loop-less Inv-loop2 μ-loop2 Inv-loop3 μ-loop3 Inv-loop5 �
 loop-less c = omega arith
 
 loop-again : tie.Need-loop-again Inv-loop2 μ-loop2 Inv-loop3 μ-loop3 Inv-loop5 μ-loop5 Inv-loop4 μ-loop4 Inv-loop μ-loop
-loop-again c = let k = (c .before .before .before .before .before .before .before .before .before) in
+loop-again c =
+    let k = (c .before .before .before .before .before .before .before .before .before) in
     let s = (c .before .before .before .before .before .before .before .before) .loop .s in
     let made = (c .before .before .before .before .before .before .before .before) .loop .inv in
     let w = word (c .before .before .before .before .before .before .before .before) in
-    let words = (c .before .before .before .before .before .before .before .before .before .before .before .before .before .before .before) .args .words .now in
+    let a = (c .before .before .before .before .before .before .before .before .before .before .before .before .before .before .before) .args in
+    let words = a .words .now in
     let t = (c .before .before .before .before .before .before .before .before) .loop .t in
     let l = (c .before) .loop4 in
     let all : l .c ≡ channels (img k) = omega
@@ -794,9 +798,9 @@ loop-again c = let k = (c .before .before .before .before .before .before .befor
       done = omega arith;
       state =
           e ∙ ap (stateAfter (img k) w) (made .state) ∙ sym
-          (after-next (img k) ((c .before .before .before .before .before .before .before .before .before .before .before .before .before .before .before) .args .state) words t (omega arith))
+          (after-next (img k) (a .state) words t (omega arith))
           ∙ ap (λ (n : ℕ). after (img k)
-          ((c .before .before .before .before .before .before .before .before .before .before .before .before .before .before .before) .args .state)
+          (a .state)
           (take n words)) (sym (add-one t));
       fits = rw e (fitting-next (img k) (net k) w s (made .fits) (omega (arith, made .count)));
       count = omega (arith, made .count);

@@ -1,7 +1,7 @@
 -- `cycle::show` meets its contract. The loop's invariant: the letters and values of the channels below c are written. Assumes nothing.
 use mathlib.Core.List.{List}
 use mathlib.Core.Logic.{inl, inr, ⊎-elim}
-use mathlib.Core.Path.{_≡_, refl, sym, ap, _∙_}
+use mathlib.Core.Path.{_≡_, refl, ap, _∙_}
 use Prim.Native.Nat.{ℕ, _≤_, _<_, _-_, _+_}
 use native.Mathlib.Omega.{arith}
 use lib.IntN.{ℤ}
@@ -165,7 +165,8 @@ loop-again c =
     ((c .before .before) .full .ensures ∙ full-read (a .image .now) (s .pre .0) (a .t2) fit (l .c) h (w .result) (w .ensures)) in
     let n : l .c < length (a .letters .now) = omega (arith, h, s .pre .1 .1) in
     let m : l .c < length (a .values .now) = omega (arith, h, s .pre .1 .1) in
-    let k : l .c + 1 ≤ (c .before .before .before .before .before .before .before .before .before .before .before .before .before) .channels .result = omega (arith, h, (c .before .before .before .before .before .before .before .before .before .before .before .before .before) .channels .ensures) in (
+    let size = (c .before .before .before .before .before .before .before .before .before .before .before .before .before) .channels in
+    let k : l .c + 1 ≤ size .result = omega (arith, h, size .ensures) in (
       k,
       written (λ k. seenAt (a .image .now) (a .t2) k .letter) (l .c) (a .letters .now) n (l .letters) (l .inv .1) _
           (ap (λ (x : Reading). x .letter) seen),

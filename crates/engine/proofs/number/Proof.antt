@@ -10,7 +10,6 @@ use Rattle.netlist.specs.AcceptedLaws.{accepted}
 use Rattle.engine.specs.Taken.{stateNumber}
 use Rattle.engine.specs.Answer.{setsAbove, stepNumber}
 use Rattle.engine.specs.AnswerLaws.{state-ok, number-state, number-22, number-12, number-last}
-use borrow.Author.Needs.{needs}
 use Rattle.engine.proofs.number.Statement.{statement}
 use Rattle.engine.proofs.number.Tie as tie
 

@@ -3,7 +3,6 @@ use mathlib.Core.Path.{sym, _∙_}
 use borrow.Author.Tests.{not-true, not-false}
 use Rattle.netlist.specs.AcceptedLaws.{accepted}
 use Rattle.engine.specs.AnswerLaws.{state-judge, state-21, state-0}
-use borrow.Author.Needs.{needs}
 use Rattle.engine.proofs.refusal.Statement.{statement}
 use Rattle.engine.proofs.refusal.Tie as tie
 

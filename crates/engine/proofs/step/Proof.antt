@@ -1,5 +1,5 @@
 -- `engine::step` meets its contract. Assumes nothing.
-use mathlib.Core.Path.{_≡_, sym, ap, _∙_}
+use mathlib.Core.Path.{sym, ap, _∙_}
 use Prim.Native.Nat.{_≤_, _+_}
 use native.Mathlib.Omega.{arith}
 use lib.ListN.{length}
@@ -8,7 +8,6 @@ use Rattle.netlist.specs.Image.{channels}
 use Rattle.netlist.specs.Accepted.{Accepted}
 use Rattle.netlist.specs.AcceptedLaws.{accepted}
 use Rattle.state.specs.declared.State.{State}
-use Rattle.engine.specs.declared.Stepped.{Stepped}
 use Rattle.cycle.specs.Cycle.{after, lettersOf, valuesOf}
 use Rattle.state.specs.Fitting.{Fitting}
 use Rattle.state.specs.FitsLaws.{fitting}
@@ -62,14 +61,14 @@ same-length-2 c = search needs
 
 returns-2 : tie.Need-returns-2
 unfolding stepOf after lettersOf valuesOf tableOver
-returns-2 c = let a = (c .before .before .before .before .before .before .before .before .before .before .before .before) .args in
-    let r = step-made (a .image .now) (a .state) (a .word) (a .letters .now) (a .values .now)
-    ((c .before .before .before .before .before .before .before .before .before) .number .result)
-    ((c .before .before .before .before .before .before .before .before .before) .number .ensures)
+returns-2 c =
+    let a = (c .before .before .before .before .before .before .before .before .before .before .before .before) .args in
+    let number = (c .before .before .before .before .before .before .before .before .before) .number in
+    let r = step-made (a .image .now) (a .state) (a .word) (a .letters .now) (a .values .now) (number .result) (number .ensures)
     ((c .before .before .before .before .before .before .before .before) .if1 .left) in
     let shown = (c .before .before .before .before .before) .show .ensures in
     record {
-      answered = ap (λ (x : State). record { number = (c .before .before .before .before .before .before .before .before .before) .number .result; state = x }) (c .cycles .ensures) ∙ r .0;
+      answered = ap (λ (x : State). record { number = number .result; state = x }) (c .cycles .ensures) ∙ r .0;
       lettered = shown .0 ∙ r .1;
       valued = shown .1 ∙ r .2;
     }

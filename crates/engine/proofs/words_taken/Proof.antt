@@ -1,7 +1,6 @@
 -- `engine::words_taken` meets its contract. The loop's invariant: i words are taken, and then those that the rest gives. Assumes nothing.
-use mathlib.Core.Bool.{false}
 use mathlib.Core.Path.{_≡_, sym, _∙_}
-use Prim.Native.Nat.{ℕ, _≤_, _-_, _+_}
+use Prim.Native.Nat.{_≤_, _-_, _+_}
 use native.Mathlib.Omega.{arith}
 use borrow.Author.Tests.{eqb-true, eqb-false}
 use lib.ListN.{length}
