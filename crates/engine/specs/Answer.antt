@@ -1,7 +1,6 @@
 -- What a step and a run answer, and what a step leaves in the arrays that it is lent.
 use mathlib.Core.Bool.{Bool, not, _||_}
 use mathlib.Core.List.{List, [], _∷_, _++_}
-use mathlib.Core.Path.{_≡_}
 use Prim.Native.Nat.{ℕ, suc, _/_, _^_}
 use lib.Dec.{eqb, ltb}
 use lib.IntN.{ℤ}
@@ -10,10 +9,10 @@ use Rattle.laws.specs.Choice.{_if_else_}
 use Rattle.netlist.specs.Image.{nodes, channels}
 use Rattle.netlist.specs.Judge.{judge}
 use Rattle.engine.specs.declared.Ran.{Ran}
-use Rattle.engine.specs.declared.State.{State}
+use Rattle.state.specs.declared.State.{State}
 use Rattle.engine.specs.declared.Stepped.{Stepped}
-use Rattle.engine.specs.Cycle.{stateAfter, lettersOf, valuesOf}
-use Rattle.engine.specs.Fits.{fits}
+use Rattle.cycle.specs.Cycle.{stateAfter, lettersOf, valuesOf}
+use Rattle.state.specs.Fits.{fits}
 
 -- 12: "stall word sets a bit at or above N": these bits are not all 0
 unfoldable pub setsAbove : ℕ → ℕ → Bool

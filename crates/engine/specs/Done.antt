@@ -1,19 +1,13 @@
--- What each of the three calls has done, by equations with the definitions: what was returned, and what the lent arrays hold after it. Each contract
+-- What a step and a run have done, by equations with the definitions: what was returned, and what the lent arrays hold after it. Each contract
 -- ensures its record as it stands here, and the token rule is stated over calls that obey these records.
 use mathlib.Core.List.{List}
 use mathlib.Core.Path.{_≡_}
 use Prim.Native.Nat.{ℕ}
 use lib.IntN.{ℤ}
-use Rattle.engine.specs.declared.Fresh.{Fresh}
 use Rattle.engine.specs.declared.Ran.{Ran}
-use Rattle.engine.specs.declared.State.{State}
+use Rattle.state.specs.declared.State.{State}
 use Rattle.engine.specs.declared.Stepped.{Stepped}
-use Rattle.engine.specs.Fresh.{freshAnswer}
 use Rattle.engine.specs.Answer.{stepAnswer, lettersWritten, valuesWritten, runAnswer}
-
--- the call for a fresh state
-pub record FreshDone (img : List ℕ) (answer : Fresh) : Type 0 where
-  pub answered : answer ≡ freshAnswer img
 
 -- a step that was lent arrays that held `letters` and `values`, and hold `letters-left` and `values-left` after it
 pub record StepDone

@@ -18,10 +18,10 @@ use Rattle.relay.specs.Station.{held, stationOf, placeAfter}
 use Rattle.relay.specs.Row.{stopped, leaving, rowAfter}
 use Rattle.shell.specs.Queue.{waiting, queueOf, full}
 use Rattle.shell.specs.Channel.{blocked, arriving, input, stopBelow, stopAbove, seen, channelAfter}
-use Rattle.engine.specs.declared.State.{State}
-use Rattle.engine.specs.State.{nodeAt, firingsAt, markAt, stationAt, queueAt, channelIn, stateOf}
-use Rattle.engine.specs.Fresh.{freshState}
-use Rattle.engine.specs.Cycle.{stalled, inputAt, blockedAt, seenAt, allReady, anyBlocked, fires, nodeAfter, channelNext, stateAfter}
+use Rattle.state.specs.declared.State.{State}
+use Rattle.state.specs.State.{nodeAt, firingsAt, markAt, stationAt, queueAt, channelIn, stateOf}
+use Rattle.state.specs.Fresh.{freshState}
+use Rattle.cycle.specs.Cycle.{stalled, inputAt, blockedAt, seenAt, allReady, anyBlocked, fires, nodeAfter, channelNext, stateAfter}
 
 -- the letters T and R with their value, I and S
 abbrev t : ℕ → Reading

@@ -6,9 +6,9 @@ use lib.Dec.{eqb}
 use lib.ListN.{drop}
 use Rattle.laws.specs.Choice.{_if_else_}
 use Rattle.netlist.specs.Judge.{judge}
-use Rattle.engine.specs.declared.State.{State}
+use Rattle.state.specs.declared.State.{State}
 use Rattle.engine.specs.declared.Taken.{Taken}
-use Rattle.engine.specs.Fits.{fits}
+use Rattle.state.specs.Fits.{fits}
 use Rattle.engine.specs.Answer.{setsAbove}
 
 -- the image's number, then 21

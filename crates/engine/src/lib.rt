@@ -1,38 +1,10 @@
-// The cycle engine: the state of a netlist, one cycle of it, and a run over a list of stall words.
-mod cycle;
-mod fits;
-mod initial;
-mod show;
-
-use relay::Station;
-use shell::Queue;
+// The cycle engine: one step of a state, and a run over a list of stall words.
+use state::State;
 ghost use mathlib.Core.Path.{_≡_};
 ghost use Prim.Native.Nat.{_≤_};
 ghost use Rattle.engine.specs.Answer.{setsAbove, stepNumber};
 ghost use Rattle.engine.specs.Taken.{stateNumber, takenFrom};
 ghost use Rattle.engine.specs.Done.{StepDone, RunDone};
-
-// A node: the value that it shows, and how often it has fired.
-pub struct Node {
-    pub value: i32,
-    pub firings: u32,
-}
-
-// The state of a netlist between two cycles. Station j of channel c, counted from 0, stands at
-// place 8 * c + j. A place that nothing uses is 0.
-pub struct State {
-    pub cycles: u32,
-    pub nodes: [Node; 64],
-    pub pending: [u8; 96],
-    pub stations: [Station; 768],
-    pub queues: [Queue; 96],
-}
-
-// What a call for a fresh state answers.
-pub struct Fresh {
-    pub number: u8,
-    pub state: State,
-}
 
 // What a step answers.
 pub struct Stepped {
@@ -72,7 +44,7 @@ fn refusal(image: &[u8], state: State) -> u8
     if judged != 0 {
         return judged;
     }
-    if !fits::fits(image, state) {
+    if !state::fits(image, state) {
         return 21;
     }
     0
@@ -150,7 +122,7 @@ pub fn step(
     if number != 0 {
         return Stepped { number, state };
     }
-    show::show(image, state, letters, values);
+    cycle::show(image, state, letters, values);
     let words = [word];
     let after = cycle::cycles(image, state, &words);
     Stepped {

@@ -16,12 +16,12 @@ use Rattle.netlist.specs.Image.{nodes, channels}
 use Rattle.netlist.specs.Accepted.{Accepted}
 use Rattle.netlist.specs.AcceptedLaws.{accepts}
 use Rattle.engine.specs.declared.Ran.{Ran}
-use Rattle.engine.specs.declared.State.{State}
+use Rattle.state.specs.declared.State.{State}
 use Rattle.engine.specs.declared.Stepped.{Stepped}
-use Rattle.engine.specs.Cycle.{stateAfter, lettersOf, valuesOf, after}
-use Rattle.engine.specs.CycleLaws.{cycles-next}
-use Rattle.engine.specs.Fitting.{Fitting}
-use Rattle.engine.specs.FitsLaws.{fits-fitting}
+use Rattle.cycle.specs.Cycle.{stateAfter, lettersOf, valuesOf, after}
+use Rattle.cycle.specs.CycleLaws.{cycles-next}
+use Rattle.state.specs.Fitting.{Fitting}
+use Rattle.state.specs.FitsLaws.{fits-fitting}
 use Rattle.engine.specs.Answer.{setsAbove, stepNumber, stepOf, stepAnswer, lettersWritten, valuesWritten, stepMore, ranFrom, runAnswer}
 use Rattle.token_rule.specs.Calls.{Step, Run, step, run, Done, goes, roomy, makes, runCycles}
 

@@ -19,15 +19,16 @@ use Rattle.relay.specs.LinkLaws.{letter-passing}
 use Rattle.relay.specs.Row.{leaving, contents}
 use Rattle.relay.specs.RowLaws.{leaving-first, behind}
 use Rattle.shell.specs.Channel.{Channel, tokens, arriving, stopBelow, seen}
-use Rattle.engine.specs.declared.State.{State}
-use Rattle.engine.specs.State.{firingsAt, channelIn}
-use Rattle.engine.specs.StateLaws.{arriving-few}
-use Rattle.engine.specs.Fresh.{freshState}
-use Rattle.engine.specs.FreshLaws.{fresh-firings, fresh-channel}
-use Rattle.engine.specs.Cycle.{seenAt, stateAfter}
-use Rattle.engine.specs.CycleLaws.{firings-next, queue-next}
-use Rattle.engine.specs.Fitting.{Steady}
-use Rattle.engine.specs.FittingLaws.{fitting-fresh, steady-next}
+use Rattle.state.specs.declared.State.{State}
+use Rattle.state.specs.State.{firingsAt, channelIn}
+use Rattle.state.specs.StateLaws.{arriving-few}
+use Rattle.state.specs.Fresh.{freshState}
+use Rattle.state.specs.FreshLaws.{fresh-firings, fresh-channel}
+use Rattle.cycle.specs.Cycle.{seenAt, stateAfter}
+use Rattle.cycle.specs.CycleLaws.{firings-next, queue-next}
+use Rattle.state.specs.Fitting.{Steady}
+use Rattle.state.specs.FittingLaws.{fitting-fresh}
+use Rattle.cycle.specs.KeptLaws.{steady-next}
 use Rattle.token_rule.specs.Safety.{Sound}
 use Rattle.token_rule.specs.SafetyLaws.{sound-fresh, sound-next}
 use Rattle.token_rule.specs.Cycles.{arrivals}

@@ -9,7 +9,7 @@ use Rattle.laws.specs.Choice.{_if_else_}
 use Rattle.laws.specs.Lists.{oneIf}
 use Rattle.netlist.specs.Image.{nodes, channels}
 use Rattle.engine.specs.declared.Ran.{Ran}
-use Rattle.engine.specs.declared.State.{State}
+use Rattle.state.specs.declared.State.{State}
 use Rattle.engine.specs.declared.Stepped.{Stepped}
 use Rattle.engine.specs.Answer.{setsAbove}
 use Rattle.engine.specs.Done.{StepDone, RunDone}

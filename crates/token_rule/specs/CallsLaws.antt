@@ -13,9 +13,9 @@ use Rattle.laws.specs.Choice.{_if_else_}
 use Rattle.laws.specs.Lists.{oneIf}
 use Rattle.netlist.specs.Image.{nodes}
 use Rattle.netlist.specs.Accepted.{Accepted}
-use Rattle.engine.specs.declared.State.{State}
-use Rattle.engine.specs.Cycle.{stateAfter, after}
-use Rattle.engine.specs.Fitting.{Fitting}
+use Rattle.state.specs.declared.State.{State}
+use Rattle.cycle.specs.Cycle.{stateAfter, after}
+use Rattle.state.specs.Fitting.{Fitting}
 use Rattle.engine.specs.Answer.{setsAbove}
 use Rattle.token_rule.specs.CyclesLaws.{after-append, cycles-after, fitting-after}
 use Rattle.token_rule.specs.Calls.{Call, step, run, returned, Done, Chain, lastState, goes, roomy, makes, runCycles, cyclesIn, cyclesOf}

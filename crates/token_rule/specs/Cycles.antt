@@ -5,8 +5,8 @@ use lib.Dec.{eqb}
 use lib.IntN.{ℤ}
 use Rattle.laws.specs.Choice.{_if_else_}
 use Rattle.laws.specs.Lists.{oneIf}
-use Rattle.engine.specs.declared.State.{State}
-use Rattle.engine.specs.Cycle.{seenAt, fires, stateAfter}
+use Rattle.state.specs.declared.State.{State}
+use Rattle.cycle.specs.Cycle.{seenAt, fires, stateAfter}
 
 -- "A node's firings are the cycles in which it fires by the rule."
 unfoldable pub firedIn : List ℕ → State → List ℕ → ℕ → ℕ

@@ -6,12 +6,12 @@ use native.Mathlib.Omega.{arith}
 use lib.ListN.{length}
 use Rattle.netlist.specs.Image.{nodes}
 use Rattle.netlist.specs.Accepted.{Accepted}
-use Rattle.engine.specs.declared.State.{State}
-use Rattle.engine.specs.State.{firingsAt}
-use Rattle.engine.specs.Cycle.{stateAfter, after}
-use Rattle.engine.specs.CycleLaws.{cycles-next, firings-next}
-use Rattle.engine.specs.Fitting.{Steady, Fitting}
-use Rattle.engine.specs.FittingLaws.{steady-next, fitting-next}
+use Rattle.state.specs.declared.State.{State}
+use Rattle.state.specs.State.{firingsAt}
+use Rattle.cycle.specs.Cycle.{stateAfter, after}
+use Rattle.cycle.specs.CycleLaws.{cycles-next, firings-next}
+use Rattle.state.specs.Fitting.{Steady, Fitting}
+use Rattle.cycle.specs.KeptLaws.{steady-next, fitting-next}
 use Rattle.token_rule.specs.Safety.{Sound}
 use Rattle.token_rule.specs.SafetyLaws.{sound-next}
 use Rattle.token_rule.specs.Cycles.{firedIn}

@@ -19,10 +19,10 @@ use Rattle.relay.specs.Station.{held, stationOf, placeAfter}
 use Rattle.relay.specs.Row.{stopped, leaving, rowAfter}
 use Rattle.shell.specs.Queue.{waiting, queueOf, full}
 use Rattle.shell.specs.Channel.{blocked, arriving, input, stopBelow, stopAbove, seen, channelAfter}
-use Rattle.engine.specs.declared.State.{State}
-use Rattle.engine.specs.State.{nodeAt, markAt, stationAt, queueAt, channelIn, stateOf}
-use Rattle.engine.specs.Fresh.{freshState, zeros}
-use Rattle.engine.specs.Cycle.{stalled, inputAt, blockedAt, seenAt, allReady, anyBlocked, fires, nodeAfter, channelNext, stateAfter}
+use Rattle.state.specs.declared.State.{State}
+use Rattle.state.specs.State.{nodeAt, markAt, stationAt, queueAt, channelIn, stateOf}
+use Rattle.state.specs.Fresh.{freshState, zeros}
+use Rattle.cycle.specs.Cycle.{stalled, inputAt, blockedAt, seenAt, allReady, anyBlocked, fires, nodeAfter, channelNext, stateAfter}
 use Rattle.engine.specs.Answer.{setsAbove, stepAnswer, lettersWritten, valuesWritten, runAnswer}
 use Rattle.token_rule.specs.Cycles.{firedIn, arrivals}
 use Rattle.token_rule.specs.Calls.{Call, step, run, returned, Done, Chain, goes, roomy, makes, runCycles, cyclesIn, cyclesOf}

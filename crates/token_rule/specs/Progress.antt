@@ -6,9 +6,9 @@ use mathlib.Core.Path.{_≡_}
 use Prim.Native.Nat.{ℕ, _<_, _≤_}
 use Rattle.laws.specs.Below.{mostBelow}
 use Rattle.netlist.specs.Image.{nodes, channels, stations}
-use Rattle.engine.specs.declared.State.{State}
-use Rattle.engine.specs.State.{firingsAt}
-use Rattle.engine.specs.Cycle.{stalled}
+use Rattle.state.specs.declared.State.{State}
+use Rattle.state.specs.State.{firingsAt}
+use Rattle.cycle.specs.Cycle.{stalled}
 
 -- "R is the largest station count on any channel, or 0 without channels."
 unfoldable pub mostStations : List ℕ → ℕ

@@ -11,14 +11,14 @@ use Rattle.laws.specs.BelowLaws.{most-at}
 use Rattle.laws.specs.Cases.{true-or-false}
 use Rattle.netlist.specs.Image.{nodes, channels, from, to, stations}
 use Rattle.netlist.specs.Accepted.{Accepted}
-use Rattle.engine.specs.declared.State.{State}
-use Rattle.engine.specs.State.{firingsAt}
-use Rattle.engine.specs.Fitting.{Steady}
-use Rattle.engine.specs.Counters.{entered}
-use Rattle.engine.specs.CountersLaws.{entered-source, entered-taken, limit-taken, entered-next, enabled-fires}
-use Rattle.engine.specs.Cycle.{stalled, fires, stateAfter}
-use Rattle.engine.specs.CycleLaws.{firings-next}
-use Rattle.engine.specs.FittingLaws.{steady-next}
+use Rattle.state.specs.declared.State.{State}
+use Rattle.state.specs.State.{firingsAt}
+use Rattle.state.specs.Fitting.{Steady}
+use Rattle.cycle.specs.Counters.{entered}
+use Rattle.cycle.specs.CountersLaws.{entered-source, entered-taken, limit-taken, entered-next, enabled-fires}
+use Rattle.cycle.specs.Cycle.{stalled, fires, stateAfter}
+use Rattle.cycle.specs.CycleLaws.{firings-next}
+use Rattle.cycle.specs.KeptLaws.{steady-next}
 use Rattle.token_rule.specs.Cycles.{firedIn}
 use Rattle.token_rule.specs.Progress.{mostStations, Furthest, Awake}
 

@@ -7,8 +7,8 @@ use Rattle.laws.specs.Stretch.{Stretch}
 use Rattle.netlist.specs.Image.{nodes, channels, to}
 use Rattle.strict.specs.Strict.{strict, stream}
 use Rattle.shell.specs.Channel.{tokens}
-use Rattle.engine.specs.declared.State.{State}
-use Rattle.engine.specs.State.{valueAt, firingsAt, channelIn}
+use Rattle.state.specs.declared.State.{State}
+use Rattle.state.specs.State.{valueAt, firingsAt, channelIn}
 
 pub record Sound (img : List ℕ) (s : State) : Type 0 where
   -- a node that has fired k times shows the strict value of cycle k

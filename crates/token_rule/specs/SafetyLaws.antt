@@ -23,15 +23,15 @@ use Rattle.relay.specs.declared.Link.{Link}
 use Rattle.relay.specs.Link.{linkOf}
 use Rattle.shell.specs.Channel.{tokens}
 use Rattle.shell.specs.ChannelLaws.{oldest-first}
-use Rattle.engine.specs.declared.Node.{Node}
-use Rattle.engine.specs.declared.State.{State}
-use Rattle.engine.specs.State.{valueAt, firingsAt, channelIn}
-use Rattle.engine.specs.Fresh.{freshState}
-use Rattle.engine.specs.Cycle.{inputAt, fires, stateAfter}
-use Rattle.engine.specs.CycleLaws.{value-next, firings-next, fires-ready, fires-holds, tokens-next}
-use Rattle.engine.specs.Fitting.{Steady}
-use Rattle.engine.specs.FreshLaws.{fresh-node, fresh-firings, fresh-tokens}
-use Rattle.engine.specs.FittingLaws.{steady-next}
+use Rattle.state.specs.declared.Node.{Node}
+use Rattle.state.specs.declared.State.{State}
+use Rattle.state.specs.State.{valueAt, firingsAt, channelIn}
+use Rattle.state.specs.Fresh.{freshState}
+use Rattle.cycle.specs.Cycle.{inputAt, fires, stateAfter}
+use Rattle.cycle.specs.CycleLaws.{value-next, firings-next, fires-ready, fires-holds, tokens-next}
+use Rattle.state.specs.Fitting.{Steady}
+use Rattle.state.specs.FreshLaws.{fresh-node, fresh-firings, fresh-tokens}
+use Rattle.cycle.specs.KeptLaws.{steady-next}
 use Rattle.token_rule.specs.Safety.{Sound}
 
 -- the first of a stretch, where a link shows it

@@ -11,9 +11,9 @@ use Rattle.laws.specs.Choice.{_if_else_}
 use Rattle.laws.specs.Table.{table}
 use Rattle.netlist.specs.Image.{nodes, channels}
 use Rattle.strict.specs.Strict.{strict, stream}
-use Rattle.engine.specs.declared.State.{State}
-use Rattle.engine.specs.State.{valueAt, firingsAt}
-use Rattle.engine.specs.Cycle.{lettersOf, valuesOf, after}
+use Rattle.state.specs.declared.State.{State}
+use Rattle.state.specs.State.{valueAt, firingsAt}
+use Rattle.cycle.specs.Cycle.{lettersOf, valuesOf, after}
 use Rattle.engine.specs.Answer.{setsAbove}
 use Rattle.token_rule.specs.Cycles.{firedIn, arrivals}
 use Rattle.token_rule.specs.Calls.{Step, Run, Call, step, run, numberOf, lastState, makes, runCycles, cyclesIn, cyclesOf}

@@ -14,16 +14,15 @@ use Rattle.netlist.specs.Accepted.{Accepted}
 use Rattle.netlist.specs.AcceptedLaws.{accepted}
 use Rattle.netlist.specs.Judge.{judge}
 use Rattle.strict.specs.Strict.{strict}
-use Rattle.engine.specs.declared.Fresh.{Fresh}
-use Rattle.engine.specs.declared.State.{State}
-use Rattle.engine.specs.State.{firingsAt}
-use Rattle.engine.specs.Fresh.{freshState, freshAnswer}
-use Rattle.engine.specs.Fitting.{Fitting}
-use Rattle.engine.specs.FreshLaws.{fresh-cycles, fresh-firings}
-use Rattle.engine.specs.FittingLaws.{fitting-fresh}
+use Rattle.state.specs.declared.Fresh.{Fresh}
+use Rattle.state.specs.declared.State.{State}
+use Rattle.state.specs.State.{firingsAt}
+use Rattle.state.specs.Fresh.{freshState, freshAnswer, FreshDone}
+use Rattle.state.specs.Fitting.{Fitting}
+use Rattle.state.specs.FreshLaws.{fresh-cycles, fresh-firings}
+use Rattle.state.specs.FittingLaws.{fitting-fresh}
 use Rattle.engine.specs.Answer.{setsAbove}
-use Rattle.engine.specs.Done.{FreshDone}
-use Rattle.engine.specs.Cycle.{after}
+use Rattle.cycle.specs.Cycle.{after}
 use Rattle.token_rule.specs.Cycles.{firedIn}
 use Rattle.token_rule.specs.CyclesLaws.{cycles-after, firings-after, fitting-after, sound-after}
 use Rattle.token_rule.specs.Safety.{Sound}

@@ -19,9 +19,11 @@ none : (c : tie.Else1) → let a = (c .before .before .before .before .before) .
 none c = sym ((c .before .before .before) .refusal .ensures) ∙ c .if1 .left
 
 -- the word against the image's nodes
-above : (c : tie.After-sets-above) → let a = (c .before .before .before .before .before .before .before) .args in setsAbove (nodes (a .image .now)) (a .word) ≡ c .sets-above .result
+above : (c : tie.After-sets-above) → let a = (c .before .before .before .before .before .before .before) .args in setsAbove (nodes (a .image .now))
+    (a .word) ≡ c .sets-above .result
 above c =
-    ap (λ (n : ℕ). setsAbove n ((c .before .before .before .before .before .before .before) .args .word)) (sym ((c .before .before .before .before) .nodes .ensures)) ∙ sym (c .sets-above .ensures)
+    ap (λ (n : ℕ). setsAbove n ((c .before .before .before .before .before .before .before) .args .word))
+    (sym ((c .before .before .before .before) .nodes .ensures)) ∙ sym (c .sets-above .ensures)
 
 -- where there is room, or is none
 last :
@@ -31,7 +33,8 @@ last :
     → (13 if b else 0) ≡ stepNumber (a .image .now) (a .state) (a .word) (a .letters) (a .values)
 last c b e =
     let a = (c .before .before .before .before .before .before .before .before .before) .args in
-    ap (λ (t : Bool). 13 if t else 0) (sym e ∙ ap (λ (k : ℕ). ltb (a .letters) k || ltb (a .values) k) ((c .before .before .before .before .before) .channels .ensures))
+    ap (λ (t : Bool). 13 if t else 0)
+    (sym e ∙ ap (λ (k : ℕ). ltb (a .letters) k || ltb (a .values) k) ((c .before .before .before .before .before) .channels .ensures))
     ∙ number-last (a .image .now) (a .state) (a .word) (a .letters) (a .values) (none (c .before .before .before .before)) ((c .before) .if2 .left)
     (above (c .before .before) ∙ c .if3 .left)
 
@@ -63,7 +66,8 @@ returns-2 c = let a = (c .before .before .before .before .before .before .before
 
 returns-3 : tie.Need-returns-3
 returns-3 c = let a = (c .before .before .before .before .before .before .before .before .before) .args in
-    number-12 (a .image .now) (a .state) (a .word) (a .letters) (a .values) (none (c .before .before .before .before)) ((c .before) .if2 .left) (above (c .before .before) ∙ c .if3 .taken)
+    number-12 (a .image .now) (a .state) (a .word) (a .letters) (a .values) (none (c .before .before .before .before)) ((c .before) .if2 .left)
+    (above (c .before .before) ∙ c .if3 .taken)
 
 returns-4 : tie.Need-returns-4
 returns-4 c = last (c .before) true (c .if4 .taken)

@@ -20,11 +20,13 @@ fits-requires c κs = accepted ((c .before .before .before) .args .image .now) (
 
 returns-2 : tie.Need-returns-2
 returns-2 c = let a = (c .before .before .before .before .before) .args in
-    state-21 (a .image .now) (a .state) (sym ((c .before .before .before) .judge .ensures) ∙ (c .before .before) .if1 .left) (sym ((c .before) .fits2 .ensures) ∙ not-true ((c .before) .fits2 .result) (c .if2 .taken))
+    state-21 (a .image .now) (a .state) (sym ((c .before .before .before) .judge .ensures) ∙ (c .before .before) .if1 .left)
+    (sym ((c .before) .fits2 .ensures) ∙ not-true ((c .before) .fits2 .result) (c .if2 .taken))
 
 returns-3 : tie.Need-returns-3
 returns-3 c = let a = (c .before .before .before .before .before) .args in
-    state-0 (a .image .now) (a .state) (sym ((c .before .before .before) .judge .ensures) ∙ (c .before .before) .if1 .left) (sym ((c .before) .fits2 .ensures) ∙ not-false ((c .before) .fits2 .result) (c .if2 .left))
+    state-0 (a .image .now) (a .state) (sym ((c .before .before .before) .judge .ensures) ∙ (c .before .before) .if1 .left)
+    (sym ((c .before) .fits2 .ensures) ∙ not-false ((c .before) .fits2 .result) (c .if2 .left))
 
 pub refusal-spec : {M : Type 1} → statement M
 refusal-spec = tie.close (tie.spec judge-requires returns fits-requires returns-2 returns-3)

@@ -6,14 +6,14 @@ use lib.ListN.{length, take, length-take}
 use Rattle.netlist.specs.Image.{nodes}
 use Rattle.netlist.specs.Accepted.{Accepted}
 use Rattle.netlist.specs.AcceptedLaws.{accepted}
-use Rattle.engine.specs.declared.State.{State}
+use Rattle.state.specs.declared.State.{State}
 use Rattle.engine.specs.declared.Taken.{Taken}
-use Rattle.engine.specs.Cycle.{after}
-use Rattle.engine.specs.Fitting.{Fitting}
-use Rattle.engine.specs.FitsLaws.{fitting}
+use Rattle.cycle.specs.Cycle.{after}
+use Rattle.state.specs.Fitting.{Fitting}
+use Rattle.state.specs.FitsLaws.{fitting}
 use Rattle.engine.specs.Taken.{stateNumber, takenFrom}
 use Rattle.engine.specs.AnswerLaws.{state-ok, run-none, run-made, ran-taken, taken-few}
-use Rattle.engine.proofs.Shape.{shaped}
+use Rattle.state.proofs.Shape.{shaped}
 use borrow.Author.Needs.{needs}
 use Rattle.engine.proofs.run.Statement.{statement}
 use Rattle.engine.proofs.run.Tie as tie
@@ -44,7 +44,10 @@ refusal-requires c κs = tt
 returns : tie.Need-returns
 returns c = let a = (c .before .before .before .before) .args in
     let r = (c .before) .refusal .ensures in
-    record { answered = ap (λ (n : ℕ). record { steps = 0; number = n; state = a .state }) r ∙ run-none (a .image .now) (a .state) (a .words .now) (λ e. c .if1 .taken (r ∙ e)) }
+    record {
+      answered = ap (λ (n : ℕ). record { steps = 0; number = n; state = a .state }) r ∙ run-none (a .image .now) (a .state) (a .words .now)
+          (λ e. c .if1 .taken (r ∙ e));
+    }
 
 nodes-requires : tie.Need-nodes-requires
 nodes-requires c κs = tt

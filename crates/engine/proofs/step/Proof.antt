@@ -7,14 +7,14 @@ use Rattle.laws.specs.Table.{tableOver}
 use Rattle.netlist.specs.Image.{channels}
 use Rattle.netlist.specs.Accepted.{Accepted}
 use Rattle.netlist.specs.AcceptedLaws.{accepted}
-use Rattle.engine.specs.declared.State.{State}
+use Rattle.state.specs.declared.State.{State}
 use Rattle.engine.specs.declared.Stepped.{Stepped}
-use Rattle.engine.specs.Cycle.{after, lettersOf, valuesOf}
-use Rattle.engine.specs.Fitting.{Fitting}
-use Rattle.engine.specs.FitsLaws.{fitting}
+use Rattle.cycle.specs.Cycle.{after, lettersOf, valuesOf}
+use Rattle.state.specs.Fitting.{Fitting}
+use Rattle.state.specs.FitsLaws.{fitting}
 use Rattle.engine.specs.Answer.{stepOf}
 use Rattle.engine.specs.AnswerLaws.{state-ok, number-ok, step-none, step-made}
-use Rattle.engine.proofs.Shape.{shaped}
+use Rattle.state.proofs.Shape.{shaped}
 use borrow.Author.Needs.{needs}
 use Rattle.engine.proofs.step.Statement.{statement}
 use Rattle.engine.proofs.step.Tie as tie
@@ -28,7 +28,8 @@ ok :
 ok c =
     let s = (c .before .before .before .before) in
     let a = s .args in
-    let n = number-ok (a .image .now) (a .state) (a .word) (length (a .letters .now)) (length (a .values .now)) (sym (c .before .number .ensures) ∙ c .if1 .left) in
+    let n = number-ok (a .image .now) (a .state) (a .word) (length (a .letters .now)) (length (a .values .now))
+    (sym (c .before .number .ensures) ∙ c .if1 .left) in
     let r = state-ok (a .image .now) (a .state) (n .0) in
     let net = accepted (a .image .now) (r .0) in
     let fit = fitting (a .image .now) net (a .state) (shaped (a .state) _ (s .good .1 .0)) (r .1) in
@@ -40,7 +41,8 @@ number-requires c κs = tt
 returns : tie.Need-returns
 unfolding stepOf
 returns c = let a = (c .before .before .before .before) .args in
-    let r = step-none (a .image .now) (a .state) (a .word) (a .letters .now) (a .values .now) ((c .before) .number .result) ((c .before) .number .ensures) (c .if1 .taken) in
+    let r = step-none (a .image .now) (a .state) (a .word) (a .letters .now) (a .values .now) ((c .before) .number .result)
+    ((c .before) .number .ensures) (c .if1 .taken) in
     record { answered = r .0; lettered = r .1; valued = r .2 }
 
 show-requires : tie.Need-show-requires
@@ -61,7 +63,10 @@ same-length-2 c = search needs
 returns-2 : tie.Need-returns-2
 unfolding stepOf after lettersOf valuesOf tableOver
 returns-2 c = let a = (c .before .before .before .before .before .before .before .before .before .before .before .before) .args in
-    let r = step-made (a .image .now) (a .state) (a .word) (a .letters .now) (a .values .now) ((c .before .before .before .before .before .before .before .before .before) .number .result) ((c .before .before .before .before .before .before .before .before .before) .number .ensures) ((c .before .before .before .before .before .before .before .before) .if1 .left) in
+    let r = step-made (a .image .now) (a .state) (a .word) (a .letters .now) (a .values .now)
+    ((c .before .before .before .before .before .before .before .before .before) .number .result)
+    ((c .before .before .before .before .before .before .before .before .before) .number .ensures)
+    ((c .before .before .before .before .before .before .before .before) .if1 .left) in
     let shown = (c .before .before .before .before .before) .show .ensures in
     record {
       answered = ap (λ (x : State). record { number = (c .before .before .before .before .before .before .before .before .before) .number .result; state = x }) (c .cycles .ensures) ∙ r .0;

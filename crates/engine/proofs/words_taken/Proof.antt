@@ -17,8 +17,11 @@ abbrev μ-loop : tie.MeasureT-loop
 μ-loop nodes cycles words room i₀ i = length words - i
 
 -- a cycle is left for word i
-left : (c : tie.Else1 Inv-loop μ-loop) → (c .before .before .before .before .before .before) .args .cycles + (c .before .before .before .before) .loop .i ≡ 1000000 → ⊥
-left c e = eqb-false (c .before .before .before .before .loop .i) (1000000 - c .before .before .before .before .before .before .args .cycles) (c .if1 .left) (omega arith)
+left : (c : tie.Else1 Inv-loop μ-loop) → (c .before .before .before .before .before .before) .args .cycles +
+    (c .before .before .before .before) .loop .i ≡ 1000000 → ⊥
+left c e =
+    eqb-false (c .before .before .before .before .loop .i) (1000000 - c .before .before .before .before .before .before .args .cycles) (c .if1 .left)
+    (omega arith)
 
 sub-room : tie.Need-sub-room Inv-loop μ-loop
 sub-room c = omega arith
@@ -47,7 +50,8 @@ returns c = let a = (c .before .before .before .before .before .before) .args in
 returns-2 : tie.Need-returns-2 Inv-loop μ-loop
 returns-2 c = let a = (c .before .before .before .before .before .before .before) .args in
     let l = (c .before .before .before .before .before) .loop in
-    sym (l .inv .2 ∙ taken-12 (a .nodes) (a .cycles) (a .words .now) (l .i) (omega arith) (left (c .before)) (sym ((c .before .before) .sets-above .ensures) ∙ c .if2 .taken))
+    sym (l .inv .2 ∙ taken-12 (a .nodes) (a .cycles) (a .words .now) (l .i) (omega arith) (left (c .before))
+    (sym ((c .before .before) .sets-above .ensures) ∙ c .if2 .taken))
 
 add-i : tie.Need-add-i Inv-loop μ-loop
 add-i c = omega arith
@@ -61,7 +65,8 @@ loop-again c = let a = (c .before .before .before .before .before .before .befor
     let n = left (c .before) in (
       omega arith,
       omega (arith, n),
-      l .inv .2 ∙ taken-next (a .nodes) (a .cycles) (a .words .now) (l .i) (omega arith) n (sym ((c .before .before) .sets-above .ensures) ∙ c .if2 .left),
+      l .inv .2 ∙ taken-next (a .nodes) (a .cycles) (a .words .now) (l .i) (omega arith) n
+          (sym ((c .before .before) .sets-above .ensures) ∙ c .if2 .left),
     )
 
 returns-3 : tie.Need-returns-3 Inv-loop μ-loop
