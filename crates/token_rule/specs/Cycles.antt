@@ -1,4 +1,4 @@
--- What a list of cycles does to a state: the state after it, how often each node fires in it, and what arrives on each channel.
+-- What a list of cycles does: how often each node fires in it, and what arrives on each channel.
 use mathlib.Core.List.{List, [], _∷_, _++_}
 use Prim.Native.Nat.{ℕ, _+_}
 use lib.Dec.{eqb}
