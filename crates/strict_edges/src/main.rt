@@ -11,22 +11,9 @@ fn run(image: &[u8], cycle: u32, values: &mut [i32], room: usize) -> u8 {
     strict::strict(image, cycle, values)
 }
 
-// How far a value lies from 0.
-fn magnitude(value: i32) -> u64 {
-    let wide = value as i64;
-    if wide < 0 {
-        return (0 - wide) as u64;
-    }
-    wide as u64
-}
-
 fn print_value(value: i32) {
-    if value < 0 {
-        io::write_all(STDOUT_FILENO, b" -");
-    } else {
-        io::write_all(STDOUT_FILENO, b" ");
-    }
-    io::print_decimal(STDOUT_FILENO, magnitude(value));
+    io::write_all(STDOUT_FILENO, b" ");
+    output::print_value(value);
 }
 
 fn print_values(values: &[i32; 66]) {
