@@ -5,10 +5,10 @@
 // Standard input has two images of 47 bytes: figure 4's, and one with stations on every channel:
 // kinds 1 6 4 7, parameters 10 100 200 300, wires 0-1-0, 3-1-1, 1-2-0, 2-3-0, 0-3-1, depths 1/1, 1/1,
 // 2/1, 1/2, 3/1.
-use state::State;
 use libc::STDOUT_FILENO;
 use relay::Station;
 use shell::Queue;
+use state::State;
 
 // One count node, parameter 5.
 const COUNTING: [u8; 7] = [1, 0, 1, 5, 0, 0, 0];

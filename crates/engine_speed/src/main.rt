@@ -3,11 +3,11 @@
 // the number that the run answered, the sum of the nodes' firings, and a checksum of every field of
 // the end state. The image is taken to have 802 bytes. A byte behind it asks for one run only: `s`
 // for the one with stalls, `f` for the free one. docs/src/engine.rs prints the same lines.
-use state::Node;
-use state::State;
 use libc::STDOUT_FILENO;
 use relay::Station;
 use shell::Queue;
+use state::Node;
+use state::State;
 
 const CYCLES: usize = 100000;
 
