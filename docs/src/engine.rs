@@ -217,14 +217,12 @@ impl State {
             sum.add_value(node.value);
             sum.add(node.firings);
         }
-        for &mark in &self.pending {
-            sum.add(mark as u32);
-        }
         for station in &self.stations {
             station.tokens.iter().for_each(|&token| sum.add_value(token));
             sum.add(station.count as u32);
         }
-        for queue in &self.queues {
+        for (&mark, queue) in self.pending.iter().zip(&self.queues) {
+            sum.add(mark as u32);
             queue.tokens.iter().for_each(|&token| sum.add_value(token));
             sum.add(queue.count as u32);
         }
@@ -232,7 +230,7 @@ impl State {
     }
 }
 
-// All fields in order, as the digits of a number in base 65,599, modulo 2^32 - 5.
+// All fields as the digits of a number in base 65,599, modulo 2^32 - 5.
 struct Checksum(u64);
 
 impl Checksum {

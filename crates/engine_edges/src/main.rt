@@ -15,6 +15,14 @@ const COUNTING: [u8; 7] = [1, 0, 1, 5, 0, 0, 0];
 
 // ---- printing
 
+// A minus sign if the value is negative, and how far it lies from 0.
+fn print_signed(value: i32) {
+    if value < 0 {
+        io::write_all(STDOUT_FILENO, b"-");
+    }
+    io::print_decimal(STDOUT_FILENO, output::magnitude(value));
+}
+
 fn letter_at(letters: &[u8], i: usize) -> u8 {
     if i < letters.len() {
         return letters[i];
@@ -34,7 +42,7 @@ fn print_value(letter: u8, values: &[i32], i: usize) {
         let value = values[i];
         let void = (letter == b'I') | (letter == b'S');
         if !(void & (value == 0)) {
-            output::print_value(value);
+            print_signed(value);
         }
     }
 }
@@ -77,7 +85,7 @@ fn print_state(image: &[u8], state: State) {
     io::write_all(STDOUT_FILENO, b" cycles, ");
     print_fired(image, state);
     io::write_all(STDOUT_FILENO, b", node 0 shows ");
-    output::print_value(node.value);
+    print_signed(node.value);
     io::write_all(STDOUT_FILENO, b"\n");
 }
 

@@ -1,8 +1,8 @@
-// Runs 100,000 cycles from the fresh state of the image on standard input, once with each stall bit
-// set in one word of sixteen and once without stalls, and prints a line for each: the steps done and
+// Runs 100,000 cycles from the fresh state of the image on standard input, once without stalls and
+// once with each stall bit set in one word of sixteen, and prints a line for each: the steps done and
 // the number that the run answered, the sum of the nodes' firings, and a checksum of every field of
-// the end state. The image is taken to have 802 bytes. A byte behind it asks for one run only: `s`
-// for the one with stalls, `f` for the free one. docs/src/engine.rs prints the same lines.
+// the end state. The image is taken to have 802 bytes. A byte behind it asks for one run only: `f`
+// for the one without stalls, `s` for the other. docs/src/engine.rs prints the same lines.
 use libc::STDOUT_FILENO;
 use relay::Station;
 use shell::Queue;
@@ -46,7 +46,7 @@ fn fill(words: &mut [u64], nodes: u8) {
     }
 }
 
-// The checksum takes all fields in order as the digits of a number in base 65,599, modulo 2^32 - 5.
+// The checksum takes all fields as the digits of a number in base 65,599, modulo 2^32 - 5.
 fn add(sum: u64, field: u64) -> u64 {
     (sum % 4294967291 * 65599 + field % 4294967291) % 4294967291
 }
@@ -80,48 +80,45 @@ fn add_node(sum: u64, node: Node) -> u64 {
     add(add_value(sum, node.value), node.firings as u64)
 }
 
-fn checksum(state: State) -> u64 {
-    let mut sum = add(0, state.cycles as u64);
+// The sum of the nodes' firings, and the checksum.
+struct End {
+    firings: u64,
+    checksum: u64,
+}
+
+fn end_of(state: State) -> End {
+    let mut firings: u64 = 0;
+    let mut checksum = add(0, state.cycles as u64);
     for n in 0..64 {
         let node = state.nodes[n];
-        sum = add_node(sum, node);
-    }
-    for c in 0..96 {
-        let mark = state.pending[c];
-        sum = add_small(sum, mark);
+        firings += node.firings as u64;
+        checksum = add_node(checksum, node);
     }
     for i in 0..768 {
         let station = state.stations[i];
-        sum = add_station(sum, station);
+        checksum = add_station(checksum, station);
     }
     for c in 0..96 {
+        let mark = state.pending[c];
         let queue = state.queues[c];
-        sum = add_queue(sum, queue);
+        checksum = add_queue(add_small(checksum, mark), queue);
     }
-    sum
-}
-
-fn firings(state: State) -> u64 {
-    let mut sum: u64 = 0;
-    for n in 0..64 {
-        let node = state.nodes[n];
-        sum += node.firings as u64;
-    }
-    sum
+    End { firings, checksum }
 }
 
 fn show(label: &[u8], image: &[u8], words: &[u64]) {
     let fresh = State::fresh(image);
     let ran = engine::run(image, fresh.state, words);
+    let end = end_of(ran.state);
     io::write_all(STDOUT_FILENO, label);
     io::write_all(STDOUT_FILENO, b": ");
     io::print_decimal(STDOUT_FILENO, ran.steps as u64);
     io::write_all(STDOUT_FILENO, b" steps, number ");
     io::print_decimal(STDOUT_FILENO, ran.number as u64);
     io::write_all(STDOUT_FILENO, b", ");
-    io::print_decimal(STDOUT_FILENO, firings(ran.state));
+    io::print_decimal(STDOUT_FILENO, end.firings);
     io::write_all(STDOUT_FILENO, b" firings, checksum ");
-    io::print_decimal(STDOUT_FILENO, checksum(ran.state));
+    io::print_decimal(STDOUT_FILENO, end.checksum);
     io::write_all(STDOUT_FILENO, b"\n");
 }
 

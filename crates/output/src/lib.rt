@@ -1,5 +1,4 @@
-// A signed value in decimal on standard output, for the programs.
-use libc::STDOUT_FILENO;
+// What the programs print a signed value with: the toolchain's library prints numbers from 0 on.
 ghost use mathlib.Core.Path.{_≡_};
 ghost use lib.IntN.{natAbs};
 
@@ -12,12 +11,4 @@ pub fn magnitude(value: i32) -> u64
         return (0 - wide) as u64;
     }
     wide as u64
-}
-
-// Writes a minus sign if the value is negative, and its magnitude.
-pub fn print_value(value: i32) {
-    if value < 0 {
-        io::write_all(STDOUT_FILENO, b"-");
-    }
-    io::print_decimal(STDOUT_FILENO, magnitude(value));
 }

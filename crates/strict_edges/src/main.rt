@@ -11,9 +11,17 @@ fn run(image: &[u8], cycle: u32, values: &mut [i32], room: usize) -> u8 {
     strict::strict(image, cycle, values)
 }
 
+// A minus sign if the value is negative, and how far it lies from 0.
+fn print_signed(value: i32) {
+    if value < 0 {
+        io::write_all(STDOUT_FILENO, b"-");
+    }
+    io::print_decimal(STDOUT_FILENO, output::magnitude(value));
+}
+
 fn print_value(value: i32) {
     io::write_all(STDOUT_FILENO, b" ");
-    output::print_value(value);
+    print_signed(value);
 }
 
 fn print_values(values: &[i32; 66]) {
