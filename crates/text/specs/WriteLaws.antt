@@ -1,0 +1,45 @@
+-- What a writer answers, where the slice is too short and where it is not. Assumes nothing.
+use mathlib.Core.List.{List, [], _∷_, _++_}
+use mathlib.Core.Path.{_≡_, _∙_}
+use Prim.Native.Nat.{ℕ, _+_, _-_, _≤_, _<_}
+use native.Mathlib.Nat.{zero-add}
+use native.Mathlib.Omega.{arith}
+use borrow.Author.Tests.{lt-ltb, le-ltb}
+use lib.ListN.{length, set, length-append}
+use lib.Seq.{sets-eq}
+use Rattle.text.specs.Ascii.{ascii}
+use Rattle.text.specs.Put.{Put}
+use Rattle.text.specs.PutLaws.{put-one, put-after}
+use Rattle.text.specs.Write.{writtenAnswer, writtenOver, WriteDone}
+
+module _ (text out : List ℕ) where
+  pub write-none : length out < length text → WriteDone text out (record { number = 13; length = 0 }) out
+  unfolding writtenAnswer writtenOver
+  write-none h = let e = lt-ltb (length out) (length text) h in record { answered = rw e; over = rw e }
+
+  pub write-made :
+      (left : List ℕ) (end : ℕ) → length text ≤ length out → Put text 0 out left end
+      → WriteDone text out (record { number = 0; length = end }) left
+  unfolding writtenAnswer writtenOver
+  write-made left end h s =
+      let e = le-ltb (length out) (length text) h in
+      let n : end ≡ length text = s .next ∙ zero-add (length text) in
+      record { answered = rw (e, n); over = s .bytes ∙ rw e (sets-eq text out 0 (rw zero-add h) ∙ rw zero-add) }
+
+-- ---- a line of two parts and a line feed, as every line is
+module _ (first rest out : List ℕ) where
+  length-line : length (first ++ (rest ++ ascii "\n")) ≡ length first + length rest + 1
+  unfolding ascii
+  length-line = simp length-append (omega arith)
+
+  -- too little is left after the two parts, or enough
+  pub line-none : length out - length first - length rest ≡ 0 → WriteDone (first ++ (rest ++ ascii "\n")) out (record { number = 13; length = 0 }) out
+  line-none e = write-none (first ++ (rest ++ ascii "\n")) out (omega (arith, e, length-line))
+
+  pub line-made :
+      {a b : List ℕ} {j k : ℕ} → length first + length rest < length out → Put first 0 out a j → Put rest j a b k
+      → WriteDone (first ++ (rest ++ ascii "\n")) out (record { number = 0; length = k + 1 }) (set b k 10)
+  unfolding ascii
+  line-made {a} {b} {j} {k} h p q =
+      write-made (first ++ (rest ++ (10 ∷ []))) out (set b k 10) (k + 1) (omega (arith, h, length-line))
+      (put-after p (put-after q (put-one 10 k b)))
