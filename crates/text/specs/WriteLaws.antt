@@ -9,7 +9,7 @@ use lib.ListN.{length, set, length-append}
 use lib.Seq.{sets-eq}
 use Rattle.text.specs.Ascii.{ascii}
 use Rattle.text.specs.Put.{Put}
-use Rattle.text.specs.PutLaws.{put-one, put-after}
+use Rattle.text.specs.PutLaws.{put-one, put-after, put-long}
 use Rattle.text.specs.Write.{writtenAnswer, writtenOver, WriteDone}
 
 module _ (text out : List ℕ) where
@@ -32,9 +32,19 @@ module _ (first rest out : List ℕ) where
   unfolding ascii
   length-line = simp length-append (omega arith)
 
-  -- too little is left after the two parts, or enough
-  pub line-none : length out - length first - length rest ≡ 0 → WriteDone (first ++ (rest ++ ascii "\n")) out (record { number = 13; length = 0 }) out
-  line-none e = write-none (first ++ (rest ++ ascii "\n")) out (omega (arith, e, length-line))
+  -- what the two parts leave is too little, or there is room
+  pub line-none :
+      {left : ℕ} → left ≡ length out - length first - length rest → left ≡ 0
+      → WriteDone (first ++ (rest ++ ascii "\n")) out (record { number = 13; length = 0 }) out
+  line-none e z = write-none (first ++ (rest ++ ascii "\n")) out (omega (arith, e, z, length-line))
+
+  pub line-room : {left : ℕ} → left ≡ length out - length first - length rest → (left ≡ 0 → ⊥) → length first + length rest < length out
+  line-room e n = omega (arith, e, n)
+
+  -- the line feed's place is there
+  pub line-inside :
+      {a b : List ℕ} {j k : ℕ} → length first + length rest < length out → Put first 0 out a j → Put rest j a b k → k < length b
+  line-inside h p q = omega (arith, h, p .next, q .next, put-long p, put-long q)
 
   pub line-made :
       {a b : List ℕ} {j k : ℕ} → length first + length rest < length out → Put first 0 out a j → Put rest j a b k

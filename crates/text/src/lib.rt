@@ -43,12 +43,12 @@ fn digits(n: u64) -> usize
     count
 }
 
-// How many bytes a value takes, a minus sign included.
-fn signed_length(value: i32) -> usize
-    ensures { λ r. ⌜ (r ≡ length (signedText value)) × (r ≤ 21) ⌝ }
+// How many bytes a token's value takes, a minus sign included.
+fn signed_length(token: i32) -> usize
+    ensures { λ r. ⌜ (r ≡ length (signedText token)) × (r ≤ 21) ⌝ }
 {
-    let count = digits(output::magnitude(value));
-    if value < 0 { count + 1 } else { count }
+    let count = digits(output::magnitude(token));
+    if token < 0 { count + 1 } else { count }
 }
 
 // Whether a letter shows a value.
@@ -160,10 +160,10 @@ fn put_states(letters: &[u8], values: &[i32], out: &mut [u8], at: usize) -> usiz
     ensures { λ r. ⌜ Put (flatMap stateText (rowOf (now (letters .entry)) (now (values .entry)))) at (now (out .entry)) (now (out .exit)) r ⌝ }
 {
     let mut end = at;
-    let mut c: usize = 0;
-    while c < letters.len() {
-        end = put_state(letters[c], value_at(values, c), out, end);
-        c += 1;
+    let mut channel: usize = 0;
+    while channel < letters.len() {
+        end = put_state(letters[channel], value_at(values, channel), out, end);
+        channel += 1;
     }
     end
 }
@@ -181,10 +181,10 @@ fn put_counts(counts: &[u32], out: &mut [u8], at: usize) -> usize
     ensures { λ r. ⌜ Put (flatMap countText (now (counts .entry))) at (now (out .entry)) (now (out .exit)) r ⌝ }
 {
     let mut end = at;
-    let mut n: usize = 0;
-    while n < counts.len() {
-        end = put_count(counts[n], out, end);
-        n += 1;
+    let mut node: usize = 0;
+    while node < counts.len() {
+        end = put_count(counts[node], out, end);
+        node += 1;
     }
     end
 }

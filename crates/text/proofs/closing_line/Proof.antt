@@ -8,7 +8,7 @@ use lib.ListN.{length, length-set}
 use Rattle.text.specs.Ascii.{ascii}
 use Rattle.text.specs.Lines.{countText, closingText}
 use Rattle.text.specs.PutLaws.{put-long}
-use Rattle.text.specs.WriteLaws.{line-none, line-made}
+use Rattle.text.specs.WriteLaws.{line-none, line-room, line-inside, line-made}
 use Rattle.text.proofs.closing_line.Statement.{statement}
 use Rattle.text.proofs.closing_line.Tie as tie
 
@@ -21,19 +21,15 @@ unfolding ascii
 left c = c .less-counts .ensures ∙ rw (c .before .less .ensures)
 
 -- there is room for the line feed
-room :
-    (c : tie.Else1)
-    → let a = (c .before .before .before .before .before) .args in
-    length (ascii "fired") + length (flatMap countText (a .firings .now)) < length (a .out .now)
-room c = omega (arith, c .if1 .left, left (c .before))
+room : (c : tie.Else1) → let a = (c .before .before .before .before .before) .args in length (ascii "fired") + length (flatMap countText (a .firings .now)) < length (a .out .now)
+room c = let a = (c .before .before .before .before .before) .args in line-room (ascii "fired") (flatMap countText (a .firings .now)) (a .out .now) (left (c .before)) (c .if1 .left)
 
--- the line feed's place is there
 inside : (c : tie.After-slice-known3) → c .before .before .put-counts .result < length (c .before .before .put-counts .last .1 .0)
 unfolding ascii
 inside c =
-    let p = c .before .before .before .before .before .before .put-bytes .ensures in
-    let q = c .before .before .put-counts .ensures in
-    omega (arith, room (c .before .before .before .before .before .before .before .before .before), p .next, q .next, put-long p, put-long q)
+    let r = c .before .before .before .before .before .before .before .before .before in
+    let a = (r .before .before .before .before .before) .args in
+    line-inside (ascii "fired") (flatMap countText (a .firings .now)) (a .out .now) (room r) (c .before .before .before .before .before .before .put-bytes .ensures) (c .before .before .put-counts .ensures)
 
 less-requires : tie.Need-less-requires
 less-requires c κs = search needs
@@ -43,8 +39,7 @@ less-counts-requires c κs = search needs
 
 returns : tie.Need-returns
 unfolding closingText
-returns c = let a = (c .before .before .before .before .before) .args in
-    line-none (ascii "fired") (flatMap countText (a .firings .now)) (a .out .now) (omega (arith, c .if1 .taken, left (c .before)))
+returns c = let a = (c .before .before .before .before .before) .args in line-none (ascii "fired") (flatMap countText (a .firings .now)) (a .out .now) (left (c .before)) (c .if1 .taken)
 
 slice-aggregate-put-bytes : tie.Need-slice-aggregate-put-bytes
 slice-aggregate-put-bytes c = search needs
@@ -55,7 +50,7 @@ put-bytes-requires c κs = omega (arith, room (c .before .before))
 
 put-counts-requires : tie.Need-put-counts-requires
 unfolding ascii
-put-counts-requires c κs = let p = c .before .before .before in omega (arith, room (p .before .before .before), p .put-bytes .ensures .next, put-long (p .put-bytes .ensures))
+put-counts-requires c κs = let p = c .before .before .before .put-bytes .ensures in omega (arith, room (c .before .before .before .before .before .before), p .next, put-long p)
 
 slice-write-out : tie.Need-slice-write-out
 slice-write-out c = inside c
@@ -70,8 +65,7 @@ returns-2 : tie.Need-returns-2
 unfolding closingText ascii
 returns-2 c = let r = c .before .before .before .before .before .before .before .before .before in
     let a = (r .before .before .before .before .before) .args in
-    line-made (ascii "fired") (flatMap countText (a .firings .now)) (a .out .now) (room r)
-    (c .before .before .before .before .before .before .put-bytes .ensures) (c .before .before .put-counts .ensures)
+    line-made (ascii "fired") (flatMap countText (a .firings .now)) (a .out .now) (room r) (c .before .before .before .before .before .before .put-bytes .ensures) (c .before .before .put-counts .ensures)
 
 pub closing-line-spec : {M : Type 1} → statement M
 closing-line-spec =

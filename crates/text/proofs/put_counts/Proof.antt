@@ -13,10 +13,10 @@ use Rattle.text.proofs.put_counts.Statement.{statement}
 use Rattle.text.proofs.put_counts.Tie as tie
 
 abbrev Inv-loop : tie.InvT-loop
-Inv-loop counts out₀ at end₀ n₀ out end n = (n ≤ length counts) × Put (flatMap countText (table (λ i. getD counts i 0) n)) at out₀ out end
+Inv-loop counts out₀ at end₀ node₀ out end node = (node ≤ length counts) × Put (flatMap countText (table (λ i. getD counts i 0) node)) at out₀ out end
 
 abbrev μ-loop : tie.MeasureT-loop
-μ-loop counts out₀ at end₀ n₀ out end n = length counts - n
+μ-loop counts out₀ at end₀ node₀ out end node = length counts - node
 
 loop-holds : tie.Need-loop-holds Inv-loop μ-loop
 loop-holds c = let a = (c .before .before) .args in
@@ -31,11 +31,11 @@ shared-slice-read-put-count c = omega arith
 put-count-requires : tie.Need-put-count-requires Inv-loop μ-loop
 put-count-requires c κs = let a = (c .before .before .before .before .before .before) .args in
     let l = (c .before .before .before) .loop in
-    let w = flat-within countText (λ i. getD (a .counts .now) i 0) (l .n) (length (a .counts .now)) (omega arith) in
+    let w = flat-within countText (λ i. getD (a .counts .now) i 0) (l .node) (length (a .counts .now)) (omega arith) in
     omega (arith, rw (flat-own countText (a .counts .now) 0) at w, l .inv .1 .next, put-long (l .inv .1))
 
-add-n : tie.Need-add-n Inv-loop μ-loop
-add-n c = omega arith
+add-node : tie.Need-add-node Inv-loop μ-loop
+add-node c = omega arith
 
 loop-less : tie.Need-loop-less Inv-loop μ-loop
 loop-less c = omega arith
@@ -51,7 +51,7 @@ same-length c = put-long (c .before .loop .inv .1)
 returns : tie.Need-returns Inv-loop μ-loop
 returns c = let a = (c .before .before .before .before) .args in
     let l = (c .before) .loop in
-    let e : l .n ≡ length (a .counts .now) = omega arith in
+    let e : l .node ≡ length (a .counts .now) = omega arith in
     rw (e, flat-own countText (a .counts .now) 0) at (l .inv .1)
 
 pub put-counts-spec : {M : Type 1} → statement M
@@ -64,7 +64,7 @@ put-counts-spec =
     mul-put-count
     shared-slice-read-put-count
     put-count-requires
-    add-n
+    add-node
     loop-less
     loop-again
     same-length

@@ -17,21 +17,21 @@ use Rattle.text.proofs.put_states.Statement.{statement}
 use Rattle.text.proofs.put_states.Tie as tie
 
 abbrev Inv-loop : tie.InvT-loop
-Inv-loop letters values out₀ at end₀ c₀ out end c = (c ≤ length letters) × Put (flatMap stateText (table (stateAt letters values) c)) at out₀ out end
+Inv-loop letters values out₀ at end₀ channel₀ out end channel = (channel ≤ length letters) × Put (flatMap stateText (table (stateAt letters values) channel)) at out₀ out end
 
 abbrev μ-loop : tie.MeasureT-loop
-μ-loop letters values out₀ at end₀ c₀ out end c = length letters - c
+μ-loop letters values out₀ at end₀ channel₀ out end channel = length letters - channel
 
 -- the state that is read is the row's
 shown :
     (c : tie.After-value-at Inv-loop μ-loop)
     → let a = (c .before .before .before .before .before .before) .args in
     let l = (c .before .before .before) .loop in
-    record { letter = getD (a .letters .now) (l .c) 0; value = toZ w32 (ofZ w32 (c .value-at .result)) } ≡ stateAt (a .letters .now) (a .values .now) (l .c)
+    record { letter = getD (a .letters .now) (l .channel) 0; value = toZ w32 (ofZ w32 (c .value-at .result)) } ≡ stateAt (a .letters .now) (a .values .now) (l .channel)
 shown c =
     let a = (c .before .before .before .before .before .before) .args in
     let l = (c .before .before .before) .loop in
-    state-read (a .letters .now) (a .values .now) (l .c) (toZ-ofZ (told (c .value-at .result) (c .value-at .ok)) ∙ c .value-at .ensures)
+    state-read (a .letters .now) (a .values .now) (l .channel) (toZ-ofZ (told (c .value-at .result) (c .value-at .ok)) ∙ c .value-at .ensures)
 
 loop-holds : tie.Need-loop-holds Inv-loop μ-loop
 loop-holds c = let a = (c .before .before) .args in
@@ -47,14 +47,14 @@ put-state-requires : tie.Need-put-state-requires Inv-loop μ-loop
 unfolding rowOf
 put-state-requires c κs = let a = (c .before .before .before .before .before .before .before) .args in
     let l = (c .before .before .before .before) .loop in
-    let w = flat-within stateText (stateAt (a .letters .now) (a .values .now)) (l .c) (length (a .letters .now)) (omega arith) in
-    let h : l .end + length (stateText (stateAt (a .letters .now) (a .values .now) (l .c))) ≤ length (l .out) =
+    let w = flat-within stateText (stateAt (a .letters .now) (a .values .now)) (l .channel) (length (a .letters .now)) (omega arith) in
+    let h : l .end + length (stateText (stateAt (a .letters .now) (a .values .now) (l .channel))) ≤ length (l .out) =
     omega (arith, w, put-long (l .inv .1), l .inv .1 .next)
     in
     rw (← shown (c .before)) at h
 
-add-c : tie.Need-add-c Inv-loop μ-loop
-add-c c = omega arith
+add-channel : tie.Need-add-channel Inv-loop μ-loop
+add-channel c = omega arith
 
 loop-less : tie.Need-loop-less Inv-loop μ-loop
 loop-less c = omega arith
@@ -72,7 +72,7 @@ returns : tie.Need-returns Inv-loop μ-loop
 unfolding rowOf
 returns c = let a = (c .before .before .before .before) .args in
     let l = (c .before) .loop in
-    let e : l .c ≡ length (a .letters .now) = omega arith in
+    let e : l .channel ≡ length (a .letters .now) = omega arith in
     rw e at (l .inv .1)
 
 pub put-states-spec : {M : Type 1} → statement M
@@ -85,7 +85,7 @@ put-states-spec =
     shared-slice-read-put-state
     value-at-requires
     put-state-requires
-    add-c
+    add-channel
     loop-less
     loop-again
     same-length

@@ -10,10 +10,10 @@ use Rattle.text.specs.DecimalLaws.{signed-minus, signed-plain}
 use Rattle.text.proofs.signed_length.Statement.{statement}
 use Rattle.text.proofs.signed_length.Tie as tie
 
-far : (c : tie.After-digits) → c .digits .result ≡ length (decimal (natAbs (c .before .before .args .value)))
+far : (c : tie.After-digits) → c .digits .result ≡ length (decimal (natAbs (c .before .before .args .token)))
 far c =
-    let f = (c .before .before) .fits .value in
-    let e : c .before .magnitude .result ≡ natAbs (c .before .before .args .value) = simp toZ-ofZ at (c .before .magnitude .ensures) in
+    let f = (c .before .before) .fits .token in
+    let e : c .before .magnitude .result ≡ natAbs (c .before .before .args .token) = simp toZ-ofZ at (c .before .magnitude .ensures) in
     rw e at (c .digits .ensures .0)
 
 magnitude-requires : tie.Need-magnitude-requires
@@ -27,14 +27,14 @@ add-result c = omega (arith, c .before .digits .ensures)
 
 returns : tie.Need-returns
 returns c = let s = c .before .before .before in
-    let f = s .fits .value in
-    let e = ap length (signed-minus (s .args .value) (simp toZ-ofZ at (c .if1 .taken))) in
+    let f = s .fits .token in
+    let e = ap length (signed-minus (s .args .token) (simp toZ-ofZ at (c .if1 .taken))) in
     (omega (arith, e, far (c .before)), omega (arith, c .before .digits .ensures))
 
 returns-2 : tie.Need-returns-2
 returns-2 c = let s = c .before .before .before in
-    let f = s .fits .value in
-    let e = ap length (signed-plain (s .args .value) (simp toZ-ofZ at (c .if1 .left))) in
+    let f = s .fits .token in
+    let e = ap length (signed-plain (s .args .token) (simp toZ-ofZ at (c .if1 .left))) in
     (omega (arith, e, far (c .before)), omega (arith, c .before .digits .ensures))
 
 pub signed-length-spec : {M : Type 1} → statement M
