@@ -32,14 +32,9 @@ module _ (first rest out : List ℕ) where
   unfolding ascii
   length-line = simp length-append (omega arith)
 
-  -- what the two parts leave is too little, or there is room
-  pub line-none :
-      {left : ℕ} → left ≡ length out - length first - length rest → left ≡ 0
-      → WriteDone (first ++ (rest ++ ascii "\n")) out (record { number = 13; length = 0 }) out
-  line-none e z = write-none (first ++ (rest ++ ascii "\n")) out (omega (arith, e, z, length-line))
-
-  pub line-room : {left : ℕ} → left ≡ length out - length first - length rest → (left ≡ 0 → ⊥) → length first + length rest < length out
-  line-room e n = omega (arith, e, n)
+  -- the two parts leave nothing
+  pub line-none : length out - length first - length rest ≡ 0 → WriteDone (first ++ (rest ++ ascii "\n")) out (record { number = 13; length = 0 }) out
+  line-none e = write-none (first ++ (rest ++ ascii "\n")) out (omega (arith, e, length-line))
 
   -- the line feed's place is there
   pub line-inside :

@@ -8,7 +8,7 @@ use lib.ListN.{length, length-set}
 use Rattle.text.specs.Decimal.{decimal}
 use Rattle.text.specs.Lines.{stateText, lineText, rowOf}
 use Rattle.text.specs.PutLaws.{put-long}
-use Rattle.text.specs.WriteLaws.{line-none, line-room, line-inside, line-made}
+use Rattle.text.specs.WriteLaws.{line-none, line-inside, line-made}
 use Rattle.text.proofs.cycle_line.Statement.{statement}
 use Rattle.text.proofs.cycle_line.Tie as tie
 
@@ -16,18 +16,23 @@ use Rattle.text.proofs.cycle_line.Tie as tie
 left :
     (c : tie.After-less-states)
     → let a = (c .before .before .before .before .before) .args in
-    c .less-states .result ≡ length (a .out .now) - length (decimal (a .cycle)) - length (flatMap stateText (rowOf (a .letters .now) (a .values .now)))
+    c .less-states .result ≡ length (a .out .now) - length (decimal (a .cycle))
+    - length (flatMap stateText (rowOf (a .letters .now) (a .values .now)))
 left c = c .less-states .ensures ∙ rw (c .before .less .ensures, c .before .before .digits .ensures .0)
 
 -- there is room for the line feed
-room : (c : tie.Else1) → let a = (c .before .before .before .before .before .before) .args in length (decimal (a .cycle)) + length (flatMap stateText (rowOf (a .letters .now) (a .values .now))) < length (a .out .now)
-room c = let a = (c .before .before .before .before .before .before) .args in line-room (decimal (a .cycle)) (flatMap stateText (rowOf (a .letters .now) (a .values .now))) (a .out .now) (left (c .before)) (c .if1 .left)
+room :
+    (c : tie.Else1)
+    → let a = (c .before .before .before .before .before .before) .args in
+    length (decimal (a .cycle)) + length (flatMap stateText (rowOf (a .letters .now) (a .values .now))) < length (a .out .now)
+room c = omega (arith, c .if1 .left, left (c .before))
 
 inside : (c : tie.After-slice-known3) → c .before .before .put-states .result < length (c .before .before .put-states .last .1 .1 .0)
 inside c =
     let r = c .before .before .before .before .before .before .before .before in
     let a = (r .before .before .before .before .before .before) .args in
-    line-inside (decimal (a .cycle)) (flatMap stateText (rowOf (a .letters .now) (a .values .now))) (a .out .now) (room r) (c .before .before .before .before .before .before .put-decimal .ensures) (c .before .before .put-states .ensures)
+    line-inside (decimal (a .cycle)) (flatMap stateText (rowOf (a .letters .now) (a .values .now))) (a .out .now) (room r)
+    (c .before .before .before .before .before .before .put-decimal .ensures) (c .before .before .put-states .ensures)
 
 digits-requires : tie.Need-digits-requires
 digits-requires c κs = search needs
@@ -40,13 +45,16 @@ less-states-requires c κs = search needs
 
 returns : tie.Need-returns
 unfolding lineText
-returns c = let a = (c .before .before .before .before .before .before) .args in line-none (decimal (a .cycle)) (flatMap stateText (rowOf (a .letters .now) (a .values .now))) (a .out .now) (left (c .before)) (c .if1 .taken)
+returns c = let a = (c .before .before .before .before .before .before) .args in
+    line-none (decimal (a .cycle))
+    (flatMap stateText (rowOf (a .letters .now) (a .values .now))) (a .out .now) (omega (arith, c .if1 .taken, left (c .before)))
 
 put-decimal-requires : tie.Need-put-decimal-requires
 put-decimal-requires c κs = omega (arith, room (c .before))
 
 put-states-requires : tie.Need-put-states-requires
-put-states-requires c κs = let p = c .before .before .before .put-decimal .ensures in omega (arith, room (c .before .before .before .before .before), p .next, put-long p)
+put-states-requires c κs = let p = c .before .before .before .put-decimal .ensures in
+    omega (arith, room (c .before .before .before .before .before), p .next, put-long p)
 
 slice-write-out : tie.Need-slice-write-out
 slice-write-out c = inside c
@@ -55,13 +63,15 @@ add-t10 : tie.Need-add-t10
 add-t10 c = omega (arith, inside c)
 
 same-length : tie.Need-same-length
-same-length c = simp length-set (put-long (c .before .before .put-states .ensures) ∙ put-long (c .before .before .before .before .before .before .put-decimal .ensures))
+same-length c = simp length-set (put-long (c .before .before .put-states .ensures) ∙
+    put-long (c .before .before .before .before .before .before .put-decimal .ensures))
 
 returns-2 : tie.Need-returns-2
 unfolding lineText
 returns-2 c = let r = c .before .before .before .before .before .before .before .before in
     let a = (r .before .before .before .before .before .before) .args in
-    line-made (decimal (a .cycle)) (flatMap stateText (rowOf (a .letters .now) (a .values .now))) (a .out .now) (room r) (c .before .before .before .before .before .before .put-decimal .ensures) (c .before .before .put-states .ensures)
+    line-made (decimal (a .cycle)) (flatMap stateText (rowOf (a .letters .now) (a .values .now))) (a .out .now) (room r)
+    (c .before .before .before .before .before .before .put-decimal .ensures) (c .before .before .put-states .ensures)
 
 pub cycle-line-spec : {M : Type 1} → statement M
 cycle-line-spec =

@@ -25,7 +25,8 @@ shown :
     (c : tie.After-value-at Inv-loop μ-loop)
     → let a = (c .before .before .before .before .before) .args in
     let l = (c .before .before .before) .loop in
-    record { letter = getD (a .letters .now) (l .c) 0; value = toZ w32 (ofZ w32 (c .value-at .result)) } ≡ stateAt (a .letters .now) (a .values .now) (l .c)
+    record { letter = getD (a .letters .now) (l .c) 0; value = toZ w32 (ofZ w32 (c .value-at .result)) } ≡ stateAt (a .letters .now)
+    (a .values .now) (l .c)
 shown c =
     let a = (c .before .before .before .before .before) .args in
     let l = (c .before .before .before) .loop in

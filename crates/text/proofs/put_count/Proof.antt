@@ -23,7 +23,8 @@ same-length c = simp length-set at (c .before .before .put-decimal .kept .1 .0)
 
 returns : tie.Need-returns
 unfolding countText
-returns c = let a = (c .before .before .before .before .before) .args in put-after (put-one 32 (a .at) (a .out .now)) (c .before .before .put-decimal .ensures)
+returns c = let a = (c .before .before .before .before .before) .args in put-after (put-one 32 (a .at) (a .out .now))
+    (c .before .before .put-decimal .ensures)
 
 pub put-count-spec : {M : Type 1} → statement M
 put-count-spec =

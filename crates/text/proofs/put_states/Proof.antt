@@ -17,7 +17,8 @@ use Rattle.text.proofs.put_states.Statement.{statement}
 use Rattle.text.proofs.put_states.Tie as tie
 
 abbrev Inv-loop : tie.InvT-loop
-Inv-loop letters values out₀ at end₀ channel₀ out end channel = (channel ≤ length letters) × Put (flatMap stateText (table (stateAt letters values) channel)) at out₀ out end
+Inv-loop letters values out₀ at end₀ channel₀ out end channel = (channel ≤ length letters) × Put
+    (flatMap stateText (table (stateAt letters values) channel)) at out₀ out end
 
 abbrev μ-loop : tie.MeasureT-loop
 μ-loop letters values out₀ at end₀ channel₀ out end channel = length letters - channel
@@ -27,7 +28,8 @@ shown :
     (c : tie.After-value-at Inv-loop μ-loop)
     → let a = (c .before .before .before .before .before .before) .args in
     let l = (c .before .before .before) .loop in
-    record { letter = getD (a .letters .now) (l .channel) 0; value = toZ w32 (ofZ w32 (c .value-at .result)) } ≡ stateAt (a .letters .now) (a .values .now) (l .channel)
+    record { letter = getD (a .letters .now) (l .channel) 0; value = toZ w32 (ofZ w32 (c .value-at .result)) } ≡ stateAt (a .letters .now)
+    (a .values .now) (l .channel)
 shown c =
     let a = (c .before .before .before .before .before .before) .args in
     let l = (c .before .before .before) .loop in
@@ -63,7 +65,8 @@ loop-again : tie.Need-loop-again Inv-loop μ-loop
 loop-again c = let v = c .before .before .before .before in
     let a = (v .before .before .before .before .before .before) .args in
     let l = (v .before .before .before) .loop in
-    (omega arith, put-field stateText (stateAt (a .letters .now) (a .values .now)) (l .inv .1) (rw (shown v) at (c .before .before .put-state .ensures)))
+    (omega arith, put-field stateText (stateAt (a .letters .now) (a .values .now)) (l .inv .1)
+    (rw (shown v) at (c .before .before .put-state .ensures)))
 
 same-length : tie.Need-same-length Inv-loop μ-loop
 same-length c = put-long (c .before .loop .inv .1)
