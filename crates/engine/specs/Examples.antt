@@ -63,12 +63,12 @@ fired img st words = table (firingsAt (after img st words)) (nodes img)
 
 -- ---- two traces
 -- figure 4: "words 1 0 0 16 0 0 3 3 8 0 0"
-abbrev words : List ℕ
+abbrev pub words : List ℕ
 words = 1 ∷ 0 ∷ 0 ∷ 16 ∷ 0 ∷ 0 ∷ 3 ∷ 3 ∷ 8 ∷ 0 ∷ 0 ∷ []
 
 -- a count, a sum, a negate and a difference node, parameters 10, 100, 200 and 300. Sum, negate and difference are a ring, and the count forks into
 -- it, to the sum and to the difference: wires 0-1-0, 3-1-1, 1-2-0, 2-3-0, 0-3-1; depths 1/1, 1/1, 2/1, 1/2, 3/1
-abbrev stationed : List ℕ
+abbrev pub stationed : List ℕ
 stationed =
     (4 ∷ 5 ∷ []) ++
     (1 ∷ 6 ∷ 4 ∷ 7 ∷ []) ++
@@ -77,7 +77,7 @@ stationed =
     (1 ∷ 1 ∷ 1 ∷ 1 ∷ 2 ∷ 1 ∷ 1 ∷ 2 ∷ 3 ∷ 1 ∷ [])
 
 -- words under which each of document 01's "Misreadings to shut out" would show in the trace
-abbrev stalls : List ℕ
+abbrev pub stalls : List ℕ
 stalls = 4 ∷ 10 ∷ 0 ∷ 2 ∷ 7 ∷ 5 ∷ 13 ∷ 9 ∷ 0 ∷ 0 ∷ 9 ∷ 13 ∷ 3 ∷ 4 ∷ 11 ∷ 12 ∷ 0 ∷ 0 ∷ 14 ∷ 0 ∷ []
 
 record Traced : Type 0 where

@@ -26,11 +26,10 @@ struct Taken {
 }
 
 // Whether a word sets a bit at or above n.
-fn sets_above(word: u64, n: u8) -> bool
-    requires { ⌜ n ≤ 64 ⌝ }
+pub fn sets_above(word: u64, n: u8) -> bool
     ensures { λ r. ⌜ r ≡ setsAbove n word ⌝ }
 {
-    if n == 64 {
+    if 64 <= n {
         return false;
     }
     word >> n != 0
@@ -77,7 +76,7 @@ fn number(image: &[u8], state: State, word: u64, letters: usize, values: usize) 
 
 // The words that a run takes: 22 and 12 are looked for before each.
 fn words_taken(nodes: u8, cycles: u32, words: &[u64]) -> Taken
-    requires { ⌜ (nodes ≤ 64) × (cycles ≤ 1000000) ⌝ }
+    requires { ⌜ cycles ≤ 1000000 ⌝ }
     ensures { λ r. ⌜ r ≡ takenFrom nodes cycles (now (words .entry)) ⌝ }
 {
     let room = (State::CYCLES - cycles) as usize;

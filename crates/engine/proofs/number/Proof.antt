@@ -6,10 +6,9 @@ use native.Mathlib.Omega.{arith}
 use lib.Dec.{ltb}
 use Rattle.laws.specs.Choice.{_if_else_}
 use Rattle.netlist.specs.Image.{nodes}
-use Rattle.netlist.specs.AcceptedLaws.{accepted}
 use Rattle.engine.specs.Taken.{stateNumber}
 use Rattle.engine.specs.Answer.{setsAbove, stepNumber}
-use Rattle.engine.specs.AnswerLaws.{state-ok, number-state, number-22, number-12, number-last}
+use Rattle.engine.specs.AnswerLaws.{number-state, number-22, number-12, number-last}
 use Rattle.engine.proofs.number.Statement.{statement}
 use Rattle.engine.proofs.number.Tie as tie
 
@@ -55,9 +54,7 @@ returns c = let a = (c .before .before .before .before .before) .args in
     r ∙ number-state (a .image .now) (a .state) (a .word) (a .letters) (a .values) (λ e. c .if1 .taken (r ∙ e))
 
 sets-above-requires : tie.Need-sets-above-requires
-sets-above-requires c κs = let a = (c .before .before .before .before .before .before) .args in
-    let ok = state-ok (a .image .now) (a .state) (none (c .before)) in
-    omega (arith, (c .before .before .before) .nodes .ensures, accepted (a .image .now) (ok .0) .few-nodes)
+sets-above-requires c κs = tt
 
 returns-2 : tie.Need-returns-2
 returns-2 c = let a = (c .before .before .before .before .before .before .before .before) .args in

@@ -53,7 +53,7 @@ nodes-requires : tie.Need-nodes-requires
 nodes-requires c κs = tt
 
 words-taken-requires : tie.Need-words-taken-requires
-words-taken-requires c κs = let k = ok (c .before) in (omega (arith, c .nodes .ensures, k .0 .few-nodes), k .1 .cycled)
+words-taken-requires c κs = ok (c .before) .1 .cycled
 
 sub-cycles : tie.Need-sub-cycles
 sub-cycles c = search needs

@@ -38,7 +38,7 @@ shared-slice-read-sets-above : tie.Need-shared-slice-read-sets-above Inv-loop μ
 shared-slice-read-sets-above c = omega arith
 
 sets-above-requires : tie.Need-sets-above-requires Inv-loop μ-loop
-sets-above-requires c κs = omega arith
+sets-above-requires c κs = tt
 
 returns : tie.Need-returns Inv-loop μ-loop
 returns c = let a = (c .before .before .before .before .before .before) .args in
