@@ -1,12 +1,17 @@
 -- What a writer answers, where the slice is too short and where it is not. Assumes nothing.
 use mathlib.Core.List.{List, [], _∷_, _++_}
-use mathlib.Core.Path.{_≡_, _∙_}
+use mathlib.Core.Bool.{true, false}
+use mathlib.Core.Logic.{⊎-elim}
+use mathlib.Core.Path.{_≡_, ap, _∙_}
 use Prim.Native.Nat.{ℕ, _+_, _-_, _≤_, _<_}
 use native.Mathlib.Nat.{zero-add}
 use native.Mathlib.Omega.{arith}
-use borrow.Author.Tests.{lt-ltb, le-ltb}
+use borrow.Author.Tests.{lt-ltb, le-ltb, ltb-false}
+use lib.Dec.{ltb}
 use lib.ListN.{length, set, length-append}
 use lib.Seq.{sets-eq}
+use Rattle.laws.specs.Cases.{true-or-false}
+use Rattle.text.specs.declared.Written.{Written}
 use Rattle.text.specs.Ascii.{ascii}
 use Rattle.text.specs.Put.{Put}
 use Rattle.text.specs.PutLaws.{put-one, put-after, put-long}
@@ -25,6 +30,35 @@ module _ (text out : List ℕ) where
       let e = le-ltb (length out) (length text) h in
       let n : end ≡ length text = s .next ∙ zero-add (length text) in
       record { answered = rw (e, n); over = s .bytes ∙ rw e (sets-eq text out 0 (rw zero-add h) ∙ rw zero-add) }
+
+-- ---- for callers: what an answer says
+module _ {text out left : List ℕ} {answer : Written} (d : WriteDone text out answer left) where
+  number-is : answer .number ≡ writtenAnswer text out .number
+  number-is = ap (λ (a : Written). a .number) (d .answered)
+
+  length-is : answer .length ≡ writtenAnswer text out .length
+  length-is = ap (λ (a : Written). a .length) (d .answered)
+
+  -- what was written fits into the slice
+  pub written-few : answer .length ≤ length out
+  unfolding writtenAnswer
+  written-few =
+      ⊎-elim
+      (λ (e : ltb (length out) (length text) ≡ true). let n : answer .length ≡ 0 = length-is ∙ rw e in omega (arith, n))
+      (λ (e : ltb (length out) (length text) ≡ false).
+      let n : answer .length ≡ length text = length-is ∙ rw e in
+      let h = ltb-false (length out) (length text) e in
+      omega (arith, n, h))
+      (true-or-false (ltb (length out) (length text)))
+
+  -- and where there is a number, nothing was
+  pub written-none : (answer .number ≡ 0 → ⊥) → answer .length ≡ 0
+  unfolding writtenAnswer
+  written-none n =
+      ⊎-elim
+      (λ (e : ltb (length out) (length text) ≡ true). length-is ∙ rw e)
+      (λ (e : ltb (length out) (length text) ≡ false). absurd (n (number-is ∙ rw e)))
+      (true-or-false (ltb (length out) (length text)))
 
 -- ---- a line of two parts and a line feed, as every line is
 module _ (first rest out : List ℕ) where

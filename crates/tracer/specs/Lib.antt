@@ -2,6 +2,7 @@
 -- number, the trace of an image and words; computed on examples.
 pub mod Input
 pub mod Trace
+pub mod Done
 pub mod Examples
 -- For the program: what number 0 says of an input; the trace line by line; that no step is refused; that the first 33,570 bytes of an input and its
 -- length decide.
@@ -9,6 +10,7 @@ pub mod InputLaws
 pub mod Lines
 pub mod TraceLaws
 pub mod StepsLaws
+pub mod DoneLaws
 pub mod Head
 -- What the code works out before it answers with a number.
 pub mod Chain

@@ -54,4 +54,5 @@ step-taken input k letters values e h l v =
     let late = ne-eqb (s .cycles) 1000000 (λ q. omega (arith, i .1)) in
     rw (le-ltb letters (channels img) l, le-ltb values (channels img) v) at
     (sym
-    (number-last img s (getD (wordsOf input) k 0) letters values (sym (state-0 img s j (fits-fitting img a s (i .0)))) late (words-below input e k h)))
+    (number-last img s (getD (wordsOf input) k 0) letters values (sym (state-0 img s j (fits-fitting img a s (i .0)))) late
+    (words-below input e k h)))

@@ -1,5 +1,8 @@
-// What the trace program's standard input holds: an image, and then 8-byte stall words, low byte
-// first. A function that reads words takes the whole input.
+// What the trace program reads and prints. Its standard input holds an image, and then 8-byte stall
+// words, low byte first; a function that reads words takes the whole input. What it prints is a line
+// for each cycle, and a closing line.
+use state::State;
+use text::Written;
 ghost use mathlib.Core.Path.{_≡_};
 ghost use Prim.Native.Nat.{_+_, _*_, _-_, _^_, _<_, _≤_};
 ghost use lib.ListN.{length, getD};
@@ -7,6 +10,17 @@ ghost use Rattle.io.specs.Counts.{Counts};
 ghost use Rattle.netlist.specs.Image.{fourBytes};
 ghost use Rattle.tracer.specs.Input.{imageDue, imageOf, wordCount, wordsOf, inputNumber};
 ghost use Rattle.tracer.specs.Chain.{anyAbove};
+ghost use Rattle.tracer.specs.Done.{LineDone, ClosingDone};
+ghost use Rattle.laws.specs.Table.{table};
+ghost use Rattle.state.specs.State.{firingsAt};
+
+// What a cycle's line answers: 0, how long it is and the state after the cycle; or the number, 0 and
+// the state that was handed in.
+pub struct Lined {
+    pub number: u8,
+    pub length: usize,
+    pub state: State,
+}
 
 // The most words that the program traces.
 const WORDS: u64 = 4096;
@@ -118,4 +132,71 @@ pub fn input_number(head: &[u8], size: u64) -> u8
         return 12;
     }
     0
+}
+
+// One cycle with a stall word, and its line at the start of `out`. The numbers are a step's, and 13
+// where `out` is shorter than the line; then nothing is written and the state stays.
+pub fn cycle_line(image: &[u8], state: State, word: u64, out: &mut [u8]) -> Lined
+    ensures { λ r. ⌜ LineDone (now (image .entry)) state word (now (out .entry)) r (now (out .exit)) ⌝ }
+{
+    let mut letters = [0u8; 96];
+    let mut values = [0i32; 96];
+    let stepped = engine::step(image, state, word, &mut letters, &mut values);
+    if stepped.number != 0 {
+        return Lined {
+            number: stepped.number,
+            length: 0,
+            state,
+        };
+    }
+    let channels = netlist::channels(image) as usize;
+    let written = text::cycle_line(state.cycles, &letters[..channels], &values[..channels], out);
+    if written.number != 0 {
+        return Lined {
+            number: written.number,
+            length: 0,
+            state,
+        };
+    }
+    let after = stepped.state;
+    Lined {
+        number: 0,
+        length: written.length,
+        state: after,
+    }
+}
+
+// Each node's firings, 0 for those that are not there.
+fn firings_of(state: State) -> [u32; 64]
+    ensures { λ r. ⌜ r ≡ table (firingsAt state) 64 ⌝ }
+{
+    let mut firings = [0u32; 64];
+    for n in 0..64 {
+        let node = state.nodes[n];
+        firings[n] = node.firings;
+    }
+    firings
+}
+
+// The closing line after a state, at the start of `out`. The numbers are the judge's, 21, and 13 where
+// `out` is shorter than the line; then nothing is written.
+pub fn closing_line(image: &[u8], state: State, out: &mut [u8]) -> Written
+    ensures { λ r. ⌜ ClosingDone (now (image .entry)) state (now (out .entry)) r (now (out .exit)) ⌝ }
+{
+    let judged = netlist::judge(image);
+    if judged != 0 {
+        return Written {
+            number: judged,
+            length: 0,
+        };
+    }
+    if !state::fits(image, state) {
+        return Written {
+            number: 21,
+            length: 0,
+        };
+    }
+    let nodes = netlist::nodes(image) as usize;
+    let firings = firings_of(state);
+    text::closing_line(&firings[..nodes], out)
 }

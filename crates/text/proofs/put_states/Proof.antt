@@ -64,9 +64,11 @@ loop-less c = omega arith
 loop-again : tie.Need-loop-again Inv-loop μ-loop
 loop-again c = let v = c .before .before .before .before in
     let a = (v .before .before .before .before .before .before) .args in
-    let l = (v .before .before .before) .loop in
-    (omega arith, put-field stateText (stateAt (a .letters .now) (a .values .now)) (l .inv .1)
-    (rw (shown v) at (c .before .before .put-state .ensures)))
+    let l = (v .before .before .before) .loop in (
+      omega arith,
+      put-field stateText (stateAt (a .letters .now) (a .values .now)) (l .inv .1)
+          (rw (shown v) at (c .before .before .put-state .ensures)),
+    )
 
 same-length : tie.Need-same-length Inv-loop μ-loop
 same-length c = put-long (c .before .loop .inv .1)

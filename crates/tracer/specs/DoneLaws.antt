@@ -1,0 +1,184 @@
+-- What each way out of a call for a line has done. Assumes nothing.
+use mathlib.Core.Bool.{true, false}
+use mathlib.Core.List.{List, [], _∷_, _++_, append-nil}
+use mathlib.Core.Logic.{⊎-elim}
+use mathlib.Core.Path.{_≡_, refl, sym, ap, _∙_}
+use Prim.Native.Nat.{ℕ, zero, suc, _+_, _≤_, _<_}
+use native.Mathlib.Numerals.{add-one}
+use native.Mathlib.Omega.{arith}
+use borrow.Author.Tests.{eq-eqb, ne-eqb, eqb-false}
+use lib.Dec.{eqb}
+use lib.IntN.{ℤ}
+use lib.ListN.{length, getD, set, take, drop, length-append, drop-of-length-le}
+use lib.Seq.{take-all, take-at, take-append-le}
+use Rattle.laws.specs.Cases.{true-or-false, lt-or-ge}
+use Rattle.laws.specs.Table.{table, tableOver}
+use Rattle.laws.specs.TableLaws.{length-table, over-set}
+use Rattle.netlist.specs.Image.{nodes, channels}
+use Rattle.netlist.specs.Judge.{judge}
+use Rattle.netlist.specs.AcceptedLaws.{accepted}
+use Rattle.state.specs.declared.State.{State}
+use Rattle.state.specs.State.{noNode, nodeAt, firingsAt}
+use Rattle.state.specs.Fits.{fits}
+use Rattle.cycle.specs.Cycle.{stateAfter, lettersOf, valuesOf}
+use Rattle.engine.specs.declared.Stepped.{Stepped}
+use Rattle.engine.specs.Answer.{stepNumber, stepOf, stepAnswer, lettersWritten, valuesWritten}
+use Rattle.engine.specs.AnswerLaws.{number-ok, state-ok, state-judge, state-21, state-0}
+use Rattle.engine.specs.Done.{StepDone}
+use Rattle.engine.specs.Taken.{stateNumber}
+use Rattle.text.specs.declared.Written.{Written}
+use Rattle.text.specs.Lines.{lineText, closingText, rowOf}
+use Rattle.text.specs.Write.{writtenAnswer, writtenOver, WriteDone}
+use Rattle.text.specs.WriteLaws.{written-few, written-none}
+use Rattle.tracer.specs.Trace.{firingsOf}
+use Rattle.tracer.specs.TraceLaws.{row-shown}
+use Rattle.tracer.specs.declared.Lined.{Lined}
+use Rattle.tracer.specs.Done.{cycleText, lineAnswer, lineOver, LineDone, closingAnswer, closingOver, ClosingDone}
+
+-- ---- a step that is lent 96 places
+module _
+    {img : List ℕ} {s : State} {word : ℕ} {letters : List ℕ} {values : List ℤ} {stepped : Stepped} {letters-left : List ℕ} {values-left : List ℤ}
+    (d : StepDone img s word letters values stepped letters-left values-left) (l : length letters ≡ 96) (v : length values ≡ 96) where
+  pub step-number : stepped .number ≡ stepNumber img s word 96 96
+  unfolding stepAnswer stepOf
+  step-number = ap (λ (a : Stepped). a .number) (d .answered) ∙ rw (l, v)
+
+  -- the image was accepted, and the first C places have the cycle's letters and values
+  module _ (e : stepped .number ≡ 0) where
+    zero-of : stepOf img s word letters values ≡ 0
+    unfolding stepOf
+    zero-of = rw (l, v) (sym step-number ∙ e)
+
+    pub step-accepted : (judge img ≡ 0) × (channels img ≤ 96)
+    step-accepted =
+        let n = number-ok img s word 96 96 (sym step-number ∙ e) in
+        (state-ok img s (n .0) .0, n .3)
+
+    pub step-state : stepped .state ≡ stateAfter img word s
+    unfolding stepAnswer
+    step-state = ap (λ (a : Stepped). a .state) (d .answered) ∙ rw zero-of
+
+    pub step-text : lineText (s .cycles) (rowOf (take (channels img) letters-left) (take (channels img) values-left)) ≡ cycleText img s
+    unfolding lettersWritten valuesWritten cycleText lettersOf valuesOf
+    step-text =
+        let n = channels img in
+        let a : take n letters-left ≡ lettersOf img s =
+        ap (take n) (d .lettered) ∙ rw zero-of (take-at (lettersOf img s) (drop n letters) n (length-table _ n)) in
+        let b : take n values-left ≡ valuesOf img s =
+        ap (take n) (d .valued) ∙ rw zero-of (take-at (valuesOf img s) (drop n values) n (length-table _ n)) in
+        rw (a, b) (ap (lineText (s .cycles)) (sym (row-shown img s)))
+
+-- ---- a cycle's line
+module _ (img : List ℕ) (s : State) (word : ℕ) (out : List ℕ) where
+  -- the step was refused
+  pub line-refused :
+      {number : ℕ} → number ≡ stepNumber img s word 96 96 → (number ≡ 0 → ⊥)
+      → LineDone img s word out (record { number = number; length = 0; state = s }) out
+  unfolding lineAnswer lineOver
+  line-refused {number} e n = let q = ne-eqb number 0 n in record { answered = rw (← e, q); over = rw (← e, q) }
+
+  module _ {text left : List ℕ} {written : Written} (e : 0 ≡ stepNumber img s word 96 96) (t : text ≡ cycleText img s)
+    (d : WriteDone text out written left)
+    where
+      -- the line is too long
+      pub line-long : (written .number ≡ 0 → ⊥) → LineDone img s word out (record { number = written .number; length = 0; state = s }) left
+      unfolding lineAnswer lineOver
+      line-long n =
+          record {
+            answered = rw (← e, ← t, ← d .answered, ne-eqb (written .number) 0 n, written-none d n);
+            over = d .over ∙ rw (← e, t);
+          }
+
+      -- it was written
+      pub line-written :
+          {after : State} → written .number ≡ 0 → after ≡ stateAfter img word s
+          → LineDone img s word out (record { number = 0; length = written .length; state = after }) left
+      unfolding lineAnswer lineOver
+      line-written n a = record { answered = rw (← e, ← t, ← d .answered, n, a); over = d .over ∙ rw (← e, t) }
+
+-- ---- the closing line
+-- the first of a table's places
+take-table : {A : Type 0} (f : ℕ → A) (n m : ℕ) → n ≤ m → take n (table f m) ≡ table f n
+unfolding table
+take-table f zero zero h = refl
+take-table f (suc n) zero h = absurd (omega arith)
+take-table f n (suc m) h =
+    ⊎-elim
+    (λ (l : n < suc m). take-append-le n (table f m) (f m ∷ []) (rw (length-table f m) (omega arith)) ∙ take-table f n m (omega arith))
+    (λ (l : suc m ≤ n).
+    let e : n ≡ suc m = omega arith in
+    rw e (take-all (suc m) (table f m ++ (f m ∷ [])) (rw (length-append, length-table f m) (omega arith))))
+    (lt-or-ge n (suc m))
+
+-- the firings are written over an array: one more, and all
+module _ (s : State) (l : List ℕ) (long : length l ≡ 64) where
+  pub firings-next :
+      {n : ℕ} {firings : List ℕ} → n < 64 → firings ≡ tableOver (firingsAt s) n l
+      → set firings n (getD (s .nodes) n noNode .firings) ≡ tableOver (firingsAt s) (n + 1) l
+  unfolding nodeAt
+  firings-next {n} h e = rw (e, add-one n) (over-set (firingsAt s) n l (omega (arith, long)))
+
+  pub firings-all : {n : ℕ} {firings : List ℕ} → n ≡ 64 → firings ≡ tableOver (firingsAt s) n l → firings ≡ table (firingsAt s) 64
+  unfolding tableOver
+  firings-all q e =
+      let none : length l ≤ 64 = omega (arith, long) in
+      e ∙ rw (q, drop-of-length-le l none, append-nil)
+
+module _ (img : List ℕ) (s : State) (out : List ℕ) where
+  pub closing-judged : (judge img ≡ 0 → ⊥) → ClosingDone img s out (record { number = judge img; length = 0 }) out
+  unfolding closingAnswer closingOver
+  closing-judged n = let e = state-judge img s n in let q = ne-eqb (judge img) 0 n in record { answered = rw (← e, q); over = rw (← e, q) }
+
+  pub closing-21 : judge img ≡ 0 → fits img s ≡ false → ClosingDone img s out (record { number = 21; length = 0 }) out
+  unfolding closingAnswer closingOver
+  closing-21 j f = let e = state-21 img s j f in record { answered = rw (← e); over = rw (← e) }
+
+  pub closing-written :
+      {left : List ℕ} {answer : Written} → judge img ≡ 0 → fits img s ≡ true
+      → WriteDone (closingText (take (nodes img) (table (firingsAt s) 64))) out answer left → ClosingDone img s out answer left
+  unfolding closingAnswer closingOver firingsOf
+  closing-written j f d =
+      let e = state-0 img s j f in
+      let t = take-table (firingsAt s) (nodes img) 64 (accepted img j .few-nodes) in
+      record { answered = d .answered ∙ rw (← e, t); over = d .over ∙ rw (← e, t) }
+
+-- ---- for callers: what was written fits into the slice
+done : (text out : List ℕ) → WriteDone text out (writtenAnswer text out) (writtenOver text out)
+done text out = record { answered = refl; over = refl }
+
+pub line-few :
+    {img : List ℕ} {s : State} {word : ℕ} {out left : List ℕ} {answer : Lined} → LineDone img s word out answer left → answer .length ≤ length out
+unfolding lineAnswer
+line-few {img} {s} {word} {out} {answer = answer} d =
+    let few = written-few (done (cycleText img s) out) in
+    let e = ap (λ (a : Lined). a .length) (d .answered) in
+    ⊎-elim
+    (λ (q : eqb (stepNumber img s word 96 96) 0 ≡ true). let n = rw q at e in omega (arith, n, few))
+    (λ (q : eqb (stepNumber img s word 96 96) 0 ≡ false). let n = rw q at e in omega (arith, n))
+    (true-or-false (eqb (stepNumber img s word 96 96) 0))
+
+-- and number 0 says that a cycle was made
+pub line-after :
+    {img : List ℕ} {s : State} {word : ℕ} {out left : List ℕ} {answer : Lined} → LineDone img s word out answer left → answer .number ≡ 0
+    → answer .state ≡ stateAfter img word s
+unfolding lineAnswer
+line-after {img} {s} {word} {out} {answer = answer} d z =
+    let e = ap (λ (a : Lined). a .state) (d .answered) in
+    let n = sym (ap (λ (a : Lined). a .number) (d .answered)) ∙ z in
+    ⊎-elim
+    (λ (q : eqb (stepNumber img s word 96 96) 0 ≡ true).
+    let w : writtenAnswer (cycleText img s) out .number ≡ 0 = rw q at n in e ∙ rw (q, eq-eqb _ 0 w))
+    (λ (q : eqb (stepNumber img s word 96 96) 0 ≡ false).
+    let w : stepNumber img s word 96 96 ≡ 0 = rw q at n in absurd (eqb-false (stepNumber img s word 96 96) 0 q w))
+    (true-or-false (eqb (stepNumber img s word 96 96) 0))
+
+pub closing-few :
+    {img : List ℕ} {s : State} {out left : List ℕ} {answer : Written} → ClosingDone img s out answer left → answer .length ≤ length out
+unfolding closingAnswer
+closing-few {img} {s} {out} {answer = answer} d =
+    let few = written-few (done (closingText (firingsOf img s)) out) in
+    let e = ap (λ (a : Written). a .length) (d .answered) in
+    ⊎-elim
+    (λ (q : eqb (stateNumber img s) 0 ≡ true). let n = rw q at e in omega (arith, n, few))
+    (λ (q : eqb (stateNumber img s) 0 ≡ false). let n = rw q at e in omega (arith, n))
+    (true-or-false (eqb (stateNumber img s) 0))
