@@ -11,14 +11,14 @@ use Rattle.netlist.specs.Image.{channels}
 use Rattle.state.specs.declared.State.{State}
 use Rattle.state.specs.Fresh.{freshState}
 use Rattle.cycle.specs.Cycle.{seenAt, stateAfter, after, lettersOf, valuesOf}
-use Rattle.text.specs.Lines.{lineText, closingText, rowOf}
+use Rattle.text.specs.Lines.{lineText, closingText, stateAt, rowOf}
 use Rattle.text.specs.Trace.{header, linesText, traceText}
 use Rattle.tracer.specs.Trace.{rowsFrom, firingsOf, traceOf}
 use Rattle.tracer.specs.Lines.{joinBelow, rowShown, lineAt}
 
 -- the row of a cycle is what its letters and values show
 pub row-shown : (img : List ℕ) (s : State) → table (seenAt img s) (channels img) ≡ rowShown img s
-unfolding rowOf lettersOf valuesOf
+unfolding rowOf stateAt lettersOf valuesOf
 row-shown img s =
     let n = channels img in
     rw (length-table (λ c. seenAt img s c .letter) n)
