@@ -10,5 +10,3 @@ pub mod Lines
 pub mod TraceLaws
 pub mod StepsLaws
 pub mod Head
--- What the code works out before it answers with a number.
-pub mod Chain

@@ -5,8 +5,7 @@ ghost use Prim.Native.Nat.{_+_, _*_, _-_, _^_, _<_, _≤_};
 ghost use lib.ListN.{length, getD};
 ghost use Rattle.io.specs.Counts.{Counts};
 ghost use Rattle.netlist.specs.Image.{fourBytes};
-ghost use Rattle.tracer.specs.Input.{imageDue, imageOf, wordCount, wordsOf, inputNumber};
-ghost use Rattle.tracer.specs.Chain.{anyAbove};
+ghost use Rattle.tracer.specs.Input.{imageDue, imageOf, wordCount, wordsOf, anyAbove, inputNumber};
 
 // The most words that the program traces.
 const WORDS: u64 = 4096;
