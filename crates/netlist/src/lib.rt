@@ -70,11 +70,14 @@ fn joined(a: u8, b: u8, c: u8, d: u8) -> u64
     a as u64 + 256 * b as u64 + 65536 * c as u64 + 16777216 * d as u64
 }
 
-// The four bytes at a place as such a number.
-fn four_bytes(image: &[u8], at: usize) -> u64
-    requires { ⌜ at < 2 ^ 32 ⌝ }
+// The four bytes at a place as such a number, each 0 past the end. For other crates: to read what
+// follows an image, such as a trace's words.
+pub fn four_bytes(image: &[u8], at: usize) -> u64
     ensures { λ r. ⌜ (r ≡ fourBytes (now (image .entry)) at) × (r < 2 ^ 32) ⌝ }
 {
+    if image.len() <= at {
+        return 0;
+    }
     joined(
         byte_at(image, at),
         byte_at(image, at + 1),

@@ -78,7 +78,7 @@ module _ (img : List ℕ) (s : State) (word : ℕ) (out : List ℕ) where
   line-refused {number} e n = let q = ne-eqb number 0 n in record { answered = rw (← e, q); over = rw (← e, q) }
 
   module _ {text left : List ℕ} {written : Written} (e : 0 ≡ stepNumber img s word 96 96) (t : text ≡ cycleText img s)
-    (d : WriteDone text out written left)
+      (d : WriteDone text out written left)
     where
       -- the line is too long
       pub line-long : (written .number ≡ 0 → ⊥) → LineDone img s word out (record { number = written .number; length = 0; state = s }) left

@@ -3,7 +3,7 @@
 use mathlib.Core.Bool.{Bool, true, false}
 use mathlib.Core.List.{List}
 use mathlib.Core.Logic.{⊎-elim}
-use mathlib.Core.Path.{_≡_, refl, sym, ap, _∙_}
+use mathlib.Core.Path.{_≡_, sym, ap, _∙_}
 use Prim.Native.Nat.{ℕ, _-_, _/_, _%_, _<_, _≤_}
 use native.Mathlib.Omega.{arith}
 use borrow.Author.Tests.{lt-ltb, eqb-true}
@@ -15,9 +15,8 @@ use Rattle.netlist.specs.Image.{nodes, channels}
 use Rattle.netlist.specs.Judge.{judge}
 use Rattle.netlist.specs.AcceptedLaws.{accepted}
 use Rattle.netlist.specs.Head.{head-judges}
-use Rattle.tracer.specs.Input.{imageDue, imageOf, inputNumber}
-use Rattle.tracer.specs.Chain.{anyAbove, numberOf}
-use Rattle.tracer.specs.InputLaws.{image-sizes, number-is}
+use Rattle.tracer.specs.Input.{imageDue, imageOf, anyAbove, numberFrom, inputNumber}
+use Rattle.tracer.specs.InputLaws.{image-sizes}
 
 -- of two stretches from the front the order does not count
 take-both : (a b : ℕ) (l : List ℕ) → take a (take b l) ≡ take b (take a l)
@@ -30,7 +29,7 @@ take-both a b l =
 
 -- where a sound image has a ragged tail or too many words, no word is looked at
 unlooked :
-    (judged tail : ℕ) (a b : Bool) → (judged ≡ 0 → tail % 8 ≡ 0 → 4096 < tail / 8) → numberOf judged tail a ≡ numberOf judged tail b
+    (judged tail : ℕ) (a b : Bool) → (judged ≡ 0 → tail % 8 ≡ 0 → 4096 < tail / 8) → numberFrom judged tail a ≡ numberFrom judged tail b
 unlooked judged tail a b h =
     ⊎-elim
     (λ (j : eqb judged 0 ≡ true).
@@ -62,13 +61,11 @@ module _ (input : List ℕ) (k : ℕ) (h : 33570 ≤ k) where
       omega (arith, a .few-nodes, a .few-channels, s)
 
   pub head-decides : inputNumber (take k input) (length input) ≡ inputNumber input (length input)
+  unfolding inputNumber
   head-decides =
       ⊎-elim
       (λ (l : k < length input).
-      let judged = judge (imageOf input) in
-      let tail = length input - imageDue input in
-      sym (number-is (take k input) (length input) judged tail (anyAbove (take k input)) (sym head-judged) (rw head-due) refl)
-      ∙ unlooked judged tail (anyAbove (take k input)) (anyAbove input) (head-long l)
-      ∙ number-is input (length input) judged tail (anyAbove input) refl refl refl)
+      rw (head-judged, head-due)
+      (unlooked (judge (imageOf input)) (length input - imageDue input) (anyAbove (take k input)) (anyAbove input) (head-long l)))
       (λ (l : length input ≤ k). ap (λ i. inputNumber i (length input)) (take-all k input l))
       (lt-or-ge k (length input))

@@ -1,5 +1,5 @@
 -- What standard input holds: "the image, then 8-byte words, low byte first."
-use mathlib.Core.Bool.{not, _&&_}
+use mathlib.Core.Bool.{Bool, not, _&&_}
 use mathlib.Core.List.{List}
 use Prim.Native.Nat.{ℕ, _+_, _*_, _-_, _/_, _%_, _^_}
 use lib.Dec.{eqb, ltb}
@@ -29,12 +29,17 @@ wordCount input = (length input - imageDue input) / 8
 unfoldable pub wordsOf : List ℕ → List ℕ
 wordsOf input = table (wordAt input) (wordCount input)
 
--- the number of an input of `size` bytes whose first bytes are given, or 0. "Bytes missing from the image, or a tail not of whole words, give 3.
--- Order: 1 to 11, 14, 12 over all words."
-unfoldable pub inputNumber : List ℕ → ℕ → ℕ
-inputNumber input size =
-    let judged = judge (imageOf input) in
-    let tail = size - imageDue input in
+-- word k sets a bit at or above N; some word does
+abbrev pub aboveAt : List ℕ → ℕ → Bool
+aboveAt input k = setsAbove (nodes input) (wordAt input k)
+
+abbrev pub anyAbove : List ℕ → Bool
+anyAbove input = anyBelow (aboveAt input) (wordCount input)
+
+-- the number, or 0, from the image's own, the length of what follows the image, and whether a word is bad. "Bytes missing from the image, or a tail
+-- not of whole words, give 3. Order: 1 to 11, 14, 12 over all words."
+abbrev pub numberFrom : ℕ → ℕ → Bool → ℕ
+numberFrom judged tail above =
     -- 1 and 2, and 3 for bytes missing from the image
     judged if not (eqb judged 0) && ltb judged 4 else
     -- a tail not of whole words
@@ -44,5 +49,9 @@ inputNumber input size =
     -- over 4,096 words
     14 if ltb 4096 (tail / 8) else
     -- a stall word sets a bit at or above N
-    12 if anyBelow (λ k. setsAbove (nodes input) (wordAt input k)) (wordCount input) else
+    12 if above else
     0
+
+-- the number of an input of `size` bytes whose first bytes are given
+unfoldable pub inputNumber : List ℕ → ℕ → ℕ
+inputNumber input size = numberFrom (judge (imageOf input)) (size - imageDue input) (anyAbove input)

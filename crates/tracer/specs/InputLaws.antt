@@ -20,8 +20,7 @@ use Rattle.netlist.specs.Image.{nodes, channels, fourBytes}
 use Rattle.netlist.specs.Judge.{judge}
 use Rattle.netlist.specs.AcceptedLaws.{accepted}
 use Rattle.engine.specs.Answer.{setsAbove}
-use Rattle.tracer.specs.Input.{imageDue, imageOf, wordAt, wordCount, wordsOf, inputNumber}
-use Rattle.tracer.specs.Chain.{aboveAt, anyAbove, numberOf}
+use Rattle.tracer.specs.Input.{imageDue, imageOf, wordAt, wordCount, wordsOf, aboveAt, anyAbove, numberFrom, inputNumber}
 
 -- ---- the image
 module _ (input : List ℕ) where
@@ -77,12 +76,6 @@ module _ (input : List ℕ) where
   word-joined due k low high h d l g = rw (word-there k h, ← d, l, g)
 
 -- ---- the number
-pub number-is :
-    (input : List ℕ) (size judged tail : ℕ) (above : Bool) → judged ≡ judge (imageOf input) → tail ≡ size - imageDue input
-    → above ≡ anyAbove input → numberOf judged tail above ≡ inputNumber input size
-unfolding inputNumber
-number-is input size judged tail above j t a = rw (j, t, a)
-
 -- one more word is looked at
 pub above-turn :
     (input : List ℕ) (n k word : ℕ) (any hit : Bool) → n ≡ nodes input → k < wordCount input → word ≡ getD (wordsOf input) k 0
@@ -98,7 +91,7 @@ never k false true e = omega arith
 never k false false e = omega arith
 
 clear :
-    (judged tail : ℕ) (above : Bool) → numberOf judged tail above ≡ 0
+    (judged tail : ℕ) (above : Bool) → numberFrom judged tail above ≡ 0
     → (judged ≡ 0) × (tail % 8 ≡ 0) × (tail / 8 ≤ 4096) × (above ≡ false)
 clear zero tail above e =
     let h3 = past 2 _ _ e in
@@ -112,7 +105,8 @@ module _ (input : List ℕ) (e : inputNumber input (length input) ≡ 0) where
   none :
       (judge (imageOf input) ≡ 0) × ((length input - imageDue input) % 8 ≡ 0) × ((length input - imageDue input) / 8 ≤ 4096)
       × (anyAbove input ≡ false)
-  none = clear _ _ _ (number-is input (length input) _ _ _ refl refl refl ∙ e)
+  unfolding inputNumber
+  none = clear (judge (imageOf input)) (length input - imageDue input) (anyAbove input) e
 
   -- its image is accepted,
   pub input-accepted : judge (imageOf input) ≡ 0

@@ -12,5 +12,3 @@ pub mod TraceLaws
 pub mod StepsLaws
 pub mod DoneLaws
 pub mod Head
--- What the code works out before it answers with a number.
-pub mod Chain

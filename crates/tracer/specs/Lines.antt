@@ -1,17 +1,12 @@
 -- The lines of a trace by their number, as a program prints them that makes one cycle after another.
-use mathlib.Core.List.{List, [], _++_}
-use Prim.Native.Nat.{ℕ, zero, suc}
+use mathlib.Core.List.{List}
+use Prim.Native.Nat.{ℕ}
 use lib.ListN.{take}
 use Rattle.relay.specs.declared.Reading.{Reading}
 use Rattle.state.specs.declared.State.{State}
 use Rattle.state.specs.Fresh.{freshState}
 use Rattle.cycle.specs.Cycle.{after, lettersOf, valuesOf}
 use Rattle.text.specs.Lines.{lineText, rowOf}
-
--- f 0, f 1, .., f (n - 1), one behind the other
-unfoldable pub joinBelow : (ℕ → List ℕ) → ℕ → List ℕ
-joinBelow f zero = []
-joinBelow f (suc n) = joinBelow f n ++ f n
 
 -- a cycle's row, from the letters and values that a step writes
 abbrev pub rowShown : List ℕ → State → List Reading

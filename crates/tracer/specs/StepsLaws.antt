@@ -1,7 +1,7 @@
 -- No step that a program makes for an input of number 0 is refused: from the fresh state, word by word, with lent arrays that are long enough.
 -- Assumes nothing.
 use mathlib.Core.List.{List}
-use mathlib.Core.Path.{_≡_, refl, sym, ap, _∙_}
+use mathlib.Core.Path.{_≡_, sym, ap, _∙_}
 use Prim.Native.Nat.{ℕ, zero, suc, _<_, _≤_}
 use native.Mathlib.Omega.{arith}
 use borrow.Author.Tests.{le-ltb, ne-eqb}
@@ -9,8 +9,8 @@ use lib.ListN.{length, getD, take}
 use Rattle.netlist.specs.Image.{channels}
 use Rattle.netlist.specs.Accepted.{Accepted}
 use Rattle.netlist.specs.AcceptedLaws.{accepted}
-use Rattle.state.specs.State.{stateOf}
 use Rattle.state.specs.Fresh.{freshState}
+use Rattle.state.specs.FreshLaws.{fresh-cycles}
 use Rattle.state.specs.Fitting.{Fitting}
 use Rattle.state.specs.FittingLaws.{fitting-fresh}
 use Rattle.state.specs.FitsLaws.{fits-fitting}
@@ -22,10 +22,6 @@ use Rattle.engine.specs.Answer.{stepNumber}
 use Rattle.engine.specs.AnswerLaws.{state-0, number-last}
 use Rattle.tracer.specs.Input.{imageOf, wordsOf, inputNumber}
 use Rattle.tracer.specs.InputLaws.{input-accepted, words-few, words-below}
-
-fresh-cycles : (img : List ℕ) → freshState img .cycles ≡ 0
-unfolding freshState stateOf
-fresh-cycles img = refl
 
 -- the state before word k fits, and k cycles are done
 steps-fit :

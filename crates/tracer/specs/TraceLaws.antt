@@ -1,6 +1,6 @@
 -- The trace is its header, the lines of its cycles and the closing line, each cycle's line made from what a step writes. Assumes nothing.
-use mathlib.Core.List.{List, [], _∷_, _++_, append-assoc, append-nil}
-use mathlib.Core.Path.{_≡_, refl, sym, ap, _∙_}
+use mathlib.Core.List.{List, [], _∷_, _++_, flatMap}
+use mathlib.Core.Path.{_≡_, refl, ap, _∙_}
 use Prim.Native.Nat.{ℕ, zero, suc, _+_}
 use native.Mathlib.Omega.{arith}
 use lib.IntN.{pos}
@@ -14,7 +14,7 @@ use Rattle.cycle.specs.Cycle.{seenAt, stateAfter, after, lettersOf, valuesOf}
 use Rattle.text.specs.Lines.{lineText, closingText, stateAt, rowOf}
 use Rattle.text.specs.Trace.{header, linesText, traceText}
 use Rattle.tracer.specs.Trace.{rowsFrom, firingsOf, traceOf}
-use Rattle.tracer.specs.Lines.{joinBelow, rowShown, lineAt}
+use Rattle.tracer.specs.Lines.{rowShown, lineAt}
 
 -- the row of a cycle is what its letters and values show
 pub row-shown : (img : List ℕ) (s : State) → table (seenAt img s) (channels img) ≡ rowShown img s
@@ -25,41 +25,38 @@ row-shown img s =
     (table-same (seenAt img s) _ n
     (λ c h. rw (table-at (λ c. seenAt img s c .letter) n c 0 h, table-at (λ c. seenAt img s c .value) n c (pos 0) h)))
 
--- the first of several texts, and texts that are the same
-join-first : (f : ℕ → List ℕ) (n : ℕ) → joinBelow f (suc n) ≡ f 0 ++ joinBelow (λ k. f (suc k)) n
-unfolding joinBelow
-join-first f zero = sym (append-nil (f 0))
-join-first f (suc n) = rw (join-first f n) (append-assoc (f 0) (joinBelow (λ k. f (suc k)) n) (f (suc n)))
-
-join-same : (f g : ℕ → List ℕ) (n : ℕ) → ((k : ℕ) → f k ≡ g k) → joinBelow f n ≡ joinBelow g n
-unfolding joinBelow
-join-same f g zero h = refl
-join-same f g (suc n) h = rw (join-same f g n h, h n)
+-- the first entry of a table
+table-first : (f : ℕ → List ℕ) (n : ℕ) → table f (suc n) ≡ f 0 ∷ table (λ k. f (suc k)) n
+unfolding table
+table-first f zero = refl
+table-first f (suc n) = rw (table-first f n)
 
 -- row k is that of the state after the first k words
 lines-joined :
     (img : List ℕ) (cycle : ℕ) (s : State) (words : List ℕ) → linesText cycle (rowsFrom img s words) ≡
-    joinBelow (λ k. lineText (cycle + k) (rowShown img (after img s (take k words)))) (length words)
-unfolding linesText rowsFrom joinBelow after
+    flatMap (λ line. line) (table (λ k. lineText (cycle + k) (rowShown img (after img s (take k words)))) (length words))
+unfolding linesText rowsFrom table flatMap after
 lines-joined img cycle s [] = refl
 lines-joined img cycle s (word ∷ words) =
     let t = stateAfter img word s in
     let f : ℕ → List ℕ = λ k. lineText (cycle + k) (rowShown img (after img s (take k (word ∷ words)))) in
-    let z : cycle + 0 ≡ cycle = omega arith in
-    let rest : linesText (suc cycle) (rowsFrom img t words) ≡ joinBelow (λ k. f (suc k)) (length words) =
+    let rest : linesText (suc cycle) (rowsFrom img t words) ≡ flatMap (λ line. line) (table (λ k. f (suc k)) (length words)) =
     lines-joined img (suc cycle) t words
-    ∙ join-same _ _ (length words)
-    (λ k. let e : suc cycle + k ≡ cycle + suc k = omega arith in ap (λ n. lineText n (rowShown img (after img t (take k words)))) e) in
-    rw (rest, row-shown img s)
-    (ap (λ n. lineText n (rowShown img s) ++ joinBelow (λ k. f (suc k)) (length words)) (sym z) ∙ sym (join-first f (length words)))
+    ∙ ap (flatMap (λ line. line))
+    (table-same _ _ (length words)
+    (λ k h. let e : suc cycle + k ≡ cycle + suc k = omega arith in ap (λ n. lineText n (rowShown img (after img t (take k words)))) e)) in
+    let z : cycle + 0 ≡ cycle = omega arith in
+    rw (rest, row-shown img s, table-first f (length words), z)
 
 pub trace-lines :
     (img words : List ℕ) → traceOf img words ≡
-    header ++ (joinBelow (lineAt img words) (length words) ++ closingText (firingsOf img (after img (freshState img) words)))
+    header
+    ++ (flatMap (λ line. line) (table (lineAt img words) (length words)) ++ closingText (firingsOf img (after img (freshState img) words)))
 unfolding traceOf traceText
 trace-lines img words =
     let s = freshState img in
     ap (λ l. header ++ (l ++ closingText (firingsOf img (after img s words))))
     (lines-joined img 0 s words
-    ∙ join-same _ _ (length words)
-    (λ k. let e : 0 + k ≡ k = omega arith in ap (λ n. lineText n (rowShown img (after img s (take k words)))) e))
+    ∙ ap (flatMap (λ line. line))
+    (table-same _ _ (length words)
+    (λ k h. let e : 0 + k ≡ k = omega arith in ap (λ n. lineText n (rowShown img (after img s (take k words)))) e)))

@@ -4,15 +4,13 @@
 use state::State;
 use text::Written;
 ghost use mathlib.Core.Path.{_≡_};
-ghost use Prim.Native.Nat.{_+_, _*_, _-_, _^_, _<_, _≤_};
+ghost use Prim.Native.Nat.{_-_};
 ghost use lib.ListN.{length, getD};
 ghost use Rattle.io.specs.Counts.{Counts};
-ghost use Rattle.netlist.specs.Image.{fourBytes};
-ghost use Rattle.tracer.specs.Input.{imageDue, imageOf, wordCount, wordsOf, inputNumber};
-ghost use Rattle.tracer.specs.Chain.{anyAbove};
-ghost use Rattle.tracer.specs.Done.{LineDone, ClosingDone};
 ghost use Rattle.laws.specs.Table.{table};
 ghost use Rattle.state.specs.State.{firingsAt};
+ghost use Rattle.tracer.specs.Input.{imageDue, imageOf, wordCount, wordsOf, anyAbove, inputNumber};
+ghost use Rattle.tracer.specs.Done.{LineDone, ClosingDone};
 
 // What a cycle's line answers: 0, how long it is and the state after the cycle; or the number, 0 and
 // the state that was handed in.
@@ -52,21 +50,6 @@ pub fn words(input: &[u8]) -> usize
     rest / 8
 }
 
-// The number of four bytes, low byte first.
-fn joined(a: u8, b: u8, c: u8, d: u8) -> u64
-    ensures { λ r. ⌜ (r ≡ a + 2 ^ 8 * b + 2 ^ 16 * c + 2 ^ 24 * d) × (r < 2 ^ 32) ⌝ }
-{
-    a as u64 + 256 * b as u64 + 65536 * c as u64 + 16777216 * d as u64
-}
-
-// The four bytes at a place as such a number.
-fn four_bytes(input: &[u8], at: usize) -> u64
-    requires { ⌜ at + 4 ≤ length (now input) ⌝ }
-    ensures { λ r. ⌜ (r ≡ fourBytes (now (input .entry)) at) × (r < 2 ^ 32) ⌝ }
-{
-    joined(input[at], input[at + 1], input[at + 2], input[at + 3])
-}
-
 // Word k of the input, 0 past the last.
 pub fn word_at(input: &[u8], k: usize) -> u64
     ensures { λ r. ⌜ r ≡ getD (wordsOf (now (input .entry))) k 0 ⌝ }
@@ -75,8 +58,8 @@ pub fn word_at(input: &[u8], k: usize) -> u64
         return 0;
     }
     let at = image_due(input) + 8 * k;
-    let low = four_bytes(input, at);
-    let high = four_bytes(input, at + 4);
+    let low = netlist::four_bytes(input, at);
+    let high = netlist::four_bytes(input, at + 4);
     low + 4294967296 * high
 }
 

@@ -38,8 +38,12 @@ words-requires c κs = tt
 
 loop-holds : tie.Need-loop-holds Inv-loop μ-loop
 unfolding after
-loop-holds c = (omega arith, c .before .words .ensures ∙ sym (length-words (c .before .before .before .before .before .args .input .now)), begun
-    (c .before .before))
+loop-holds c = (
+  omega arith,
+  c .before .words .ensures ∙ sym (length-words (c .before .before .before .before .before .args .input .now)),
+  begun
+      (c .before .before),
+)
 
 word-at-requires : tie.Need-word-at-requires Inv-loop μ-loop
 word-at-requires c κs = tt
@@ -59,10 +63,12 @@ loop-less c = omega arith
 loop-again : tie.Need-loop-again Inv-loop μ-loop
 loop-again c = let l = (c .before .before .before .before .before .before) .loop in
     let a = (c .before .before .before .before .before .before .before .before .before .before .before .before) .args in
-    let made = c .before .before .print-cycle .ensures (not-false (c .before .before .print-cycle .result .taken) (c .if1 .left)) in
-    (omega arith, l .inv .1,
-    λ j. made ∙ rw (add-one (l .k), c .before .before .before .word-at .ensures, l .inv .2 j)
-    (sym (after-next (a .image .now) (freshState (a .image .now)) (wordsOf (a .input .now)) (l .k) (omega (arith, l .inv .1)))))
+    let made = c .before .before .print-cycle .ensures (not-false (c .before .before .print-cycle .result .taken) (c .if1 .left)) in (
+      omega arith,
+      l .inv .1,
+      λ j. made ∙ rw (add-one (l .k), c .before .before .before .word-at .ensures, l .inv .2 j)
+          (sym (after-next (a .image .now) (freshState (a .image .now)) (wordsOf (a .input .now)) (l .k) (omega (arith, l .inv .1)))),
+    )
 
 returns-2 : tie.Need-returns-2 Inv-loop μ-loop
 returns-2 c = let l = (c .before) .loop in

@@ -3,8 +3,7 @@ use mathlib.Core.Path.{_≡_, refl}
 use Prim.Native.Nat.{_-_, _≤_}
 use native.Mathlib.Omega.{arith}
 use Rattle.laws.specs.Below.{anyBelow}
-use Rattle.tracer.specs.Input.{wordCount}
-use Rattle.tracer.specs.Chain.{aboveAt}
+use Rattle.tracer.specs.Input.{wordCount, aboveAt}
 use Rattle.tracer.specs.InputLaws.{above-turn}
 use Rattle.tracer.proofs.any_above.Statement.{statement}
 use Rattle.tracer.proofs.any_above.Tie as tie

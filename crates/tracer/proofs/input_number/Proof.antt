@@ -1,13 +1,10 @@
 -- `tracer::input_number` meets its contract. Assumes nothing.
 use mathlib.Core.Bool.{true, false, not, _&&_}
-use mathlib.Core.Path.{_≡_, ap, _∙_}
-use Prim.Native.Nat.{_-_, _/_, _%_}
+use mathlib.Core.Path.{_≡_}
+use Prim.Native.Nat.{_/_, _%_}
 use lib.Dec.{eqb, ltb}
-use lib.ListN.{take}
-use Rattle.netlist.specs.Judge.{judge}
-use Rattle.tracer.specs.Input.{inputNumber}
-use Rattle.tracer.specs.Chain.{numberOf}
-use Rattle.tracer.specs.InputLaws.{image-taken, number-is}
+use Rattle.tracer.specs.Input.{numberFrom, inputNumber}
+use Rattle.tracer.specs.InputLaws.{image-taken}
 use borrow.Author.Needs.{needs}
 use Rattle.tracer.proofs.input_number.Statement.{statement}
 use Rattle.tracer.proofs.input_number.Tie as tie
@@ -17,14 +14,19 @@ number :
     (c : tie.After-any-above)
     → let d = c .before .before .before in
     let a = d .before .before .before .before .args in
-    numberOf (d .judge .result) (c .before .beyond .result) (c .any-above .result) ≡ inputNumber (a .head .now) (a .size)
+    numberFrom (d .judge .result) (c .before .beyond .result) (c .any-above .result) ≡ inputNumber (a .head .now) (a .size)
+unfolding inputNumber
 number c =
     let d = c .before .before .before in
     let a = d .before .before .before .before .args in
-    number-is (a .head .now) (a .size) _ _ _
-    (d .judge .ensures ∙ ap judge (ap (λ n. take n (a .head .now)) (d .before .before .image-length .ensures .0) ∙ image-taken (a .head .now)))
-    (c .before .beyond .ensures ∙ ap (λ n. a .size - n) (c .before .before .image-due .ensures))
-    (c .any-above .ensures)
+    rw (
+      d .judge .ensures,
+      d .before .before .image-length .ensures .0,
+      image-taken (a .head .now),
+      c .before .beyond .ensures,
+      c .before .before .image-due .ensures,
+      c .any-above .ensures,
+    )
 
 -- what the tests have found, in the definition's words
 early : (c : tie.Then1) → let j = c .before .before .before .before .judge .result in (not (eqb j 0) && ltb j 4) ≡ true

@@ -31,13 +31,13 @@ add-at : tie.Need-add-at
 add-at c = omega (arith, inside c)
 
 four-bytes-requires : tie.Need-four-bytes-requires
-four-bytes-requires c κs = omega (arith, inside c)
+four-bytes-requires c κs = search needs
 
 add-four-bytes : tie.Need-add-four-bytes
 add-four-bytes c = omega (arith, inside (c .before))
 
 four-bytes-requires-2 : tie.Need-four-bytes-requires-2
-four-bytes-requires-2 c κs = omega (arith, inside (c .before))
+four-bytes-requires-2 c κs = search needs
 
 mul-result : tie.Need-mul-result
 mul-result c = search needs

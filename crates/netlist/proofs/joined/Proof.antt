@@ -1,7 +1,7 @@
--- `tracer::joined` meets its contract, by the bytes' range. Assumes nothing.
+-- `netlist::joined` meets its contract, by the bytes' range. Assumes nothing.
 use native.Mathlib.Omega.{arith}
-use Rattle.tracer.proofs.joined.Statement.{statement}
-use Rattle.tracer.proofs.joined.Tie as tie
+use Rattle.netlist.proofs.joined.Statement.{statement}
+use Rattle.netlist.proofs.joined.Tie as tie
 
 mul-result : tie.Need-mul-result
 mul-result c = omega arith
