@@ -3,10 +3,10 @@
 use mathlib.Core.Bool.{Bool, true, false, _&&_, _||_}
 use mathlib.Core.List.{List, [], _∷_, _++_, map}
 use mathlib.Core.Path.{_≡_, refl, sym, ap, _∙_}
-use Prim.Native.Nat.{ℕ, pred}
+use Prim.Native.Nat.{ℕ}
 use native.Mathlib.Omega.{arith}
 use lib.Dec.{eqb, leb, ltb, leb·zero}
-use lib.IntN.{ℤ, pos, negsuc}
+use lib.IntN.{ℤ, pos}
 use lib.ListN.{getD, set, replicate}
 use Rattle.laws.specs.Below.{allBelow, anyBelow, sumBelow, pickBelow}
 use Rattle.laws.specs.Choice.{_if_else_}
@@ -21,6 +21,7 @@ use Rattle.pearl.specs.Next.{exact, nextValue}
 use Rattle.node.specs.Node.{portValue, nextOf}
 use Rattle.relay.specs.declared.Reading.{Reading}
 use Rattle.relay.specs.declared.Station.{Station}
+use Rattle.relay.specs.Examples.{t, t-, r, i, s}
 use Rattle.relay.specs.Link.{linkOf, letter, reading}
 use Rattle.relay.specs.Station.{held, stationOf, placeAfter}
 use Rattle.relay.specs.Row.{stopped, leaving, rowAfter}
@@ -36,22 +37,6 @@ use Rattle.state.specs.Fits.{zeroFrom, cyclesFit, firingsFit, marksFit, station
 use Rattle.state.specs.Fits.{unusedClear, balanced, fits}
 use Rattle.engine.specs.Answer.{setsAbove, stepNumber, stepOf, stepAnswer, lettersWritten, valuesWritten, stepMore, ranFrom, runAnswer}
 use Rattle.engine.specs.AnswerLaws.{step-none, step-made}
-
--- the letters T and R with their value, T also with one below 0; I and S
-abbrev t : ℕ → Reading
-t x = record { letter = 84; value = pos x }
-
-abbrev t- : ℕ → Reading
-t- x = record { letter = 84; value = negsuc (pred x) }
-
-abbrev r : ℕ → Reading
-r x = record { letter = 82; value = pos x }
-
-abbrev i : Reading
-i = record { letter = 73; value = pos 0 }
-
-abbrev s : Reading
-s = record { letter = 83; value = pos 0 }
 
 -- the trace's lines from a state on, and each node's firings after them
 abbrev lines : List ℕ → State → List ℕ → List (List Reading)

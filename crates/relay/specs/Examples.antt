@@ -2,9 +2,9 @@
 use mathlib.Core.Bool.{Bool, true, false}
 use mathlib.Core.List.{List, [], _∷_, _++_}
 use mathlib.Core.Path.{_≡_, refl}
-use Prim.Native.Nat.{ℕ}
+use Prim.Native.Nat.{ℕ, pred}
 use lib.Dec.{eqb, ltb}
-use lib.IntN.{ℤ, pos}
+use lib.IntN.{ℤ, pos, negsuc}
 use lib.ListN.{replicate}
 use Rattle.laws.specs.Lists.{oneIf, padded}
 use Rattle.relay.specs.declared.Link.{Link}
@@ -15,17 +15,20 @@ use Rattle.relay.specs.Station.{held, stationOf, placeAfter}
 use Rattle.relay.specs.Row.{stopped, leaving, rowAfter}
 use Rattle.relay.specs.RowCycle.{places, rowCycle}
 
--- the letters T and R with their value, I and S
-abbrev t : ℕ → Reading
+-- the letters T and R with their value, T also with one below 0; I and S
+abbrev pub t : ℕ → Reading
 t x = record { letter = 84; value = pos x }
 
-abbrev r : ℕ → Reading
+abbrev pub t- : ℕ → Reading
+t- x = record { letter = 84; value = negsuc (pred x) }
+
+abbrev pub r : ℕ → Reading
 r x = record { letter = 82; value = pos x }
 
-abbrev i : Reading
+abbrev pub i : Reading
 i = record { letter = 73; value = pos 0 }
 
-abbrev s : Reading
+abbrev pub s : Reading
 s = record { letter = 83; value = pos 0 }
 
 -- a list of bits

@@ -1,10 +1,9 @@
 -- The definitions, computed: numbers, lines, a whole trace, and what a writer leaves in a slice that is too short, just long enough and longer.
 use mathlib.Core.List.{[], _∷_, _++_, flatMap}
 use mathlib.Core.Path.{_≡_, refl}
-use Prim.Native.Nat.{ℕ, pred}
 use lib.IntN.{pos, negsuc}
 use Rattle.laws.specs.Table.{table}
-use Rattle.relay.specs.declared.Reading.{Reading}
+use Rattle.relay.specs.Examples.{t, t-, r, i, s}
 use Rattle.text.specs.Ascii.{ascii}
 use Rattle.text.specs.Decimal.{places, decimal, signedText}
 use Rattle.text.specs.Lines.{showsValue, stateText, lineText, countText, closingText, refusedText, stateAt, rowOf}
@@ -25,22 +24,7 @@ values :
 unfolding signedText decimal places ascii
 values = (refl, refl, refl, refl)
 
--- ---- lines. The letters T and R with their value, T also with one below 0; I and S
-abbrev t : ℕ → Reading
-t x = record { letter = 84; value = pos x }
-
-abbrev t- : ℕ → Reading
-t- x = record { letter = 84; value = negsuc (pred x) }
-
-abbrev r : ℕ → Reading
-r x = record { letter = 82; value = pos x }
-
-abbrev i : Reading
-i = record { letter = 73; value = pos 0 }
-
-abbrev s : Reading
-s = record { letter = 83; value = pos 0 }
-
+-- ---- lines
 lines :
     (lineText 4 (t 13 ∷ t 104 ∷ t 114 ∷ r 114 ∷ []) ≡ ascii "4 T13 T104 T114 R114\n") ×
     (lineText 4095 (s ∷ i ∷ t- 2147483648 ∷ t 0 ∷ []) ≡ ascii "4095 S I T-2147483648 T0\n") ×

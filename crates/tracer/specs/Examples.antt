@@ -1,5 +1,5 @@
 -- The definitions, computed: the whole output for figure 4, for a netlist with stations on every channel, and for small netlists; the numbers of an
--- input, in their order.
+-- input, in their order; the calls for a line.
 use mathlib.Core.List.{List, [], _∷_, _++_, flatMap}
 use mathlib.Core.Path.{_≡_, refl}
 use Prim.Native.Nat.{ℕ, _+_, _*_}
@@ -21,16 +21,22 @@ use Rattle.relay.specs.Row.{stopped, leaving, rowAfter}
 use Rattle.shell.specs.Queue.{waiting, queueOf, full}
 use Rattle.shell.specs.Channel.{blocked, arriving, input, stopBelow, stopAbove, seen, channelAfter}
 use Rattle.state.specs.State.{nodeAt, markAt, stationAt, queueAt, channelIn, stateOf}
-use Rattle.state.specs.Fresh.{freshState}
+use Rattle.state.specs.declared.State.{State}
+use Rattle.state.specs.Fresh.{freshState, zeros}
+use Rattle.state.specs.Fits.{zeroFrom, cyclesFit, firingsFit, marksFit, stationsFit, countsFit, nodeClear, markClear, stationClear, queueClear}
+use Rattle.state.specs.Fits.{unusedClear, balanced, fits}
 use Rattle.cycle.specs.Cycle.{stalled, inputAt, blockedAt, seenAt, allReady, anyBlocked, fires, nodeAfter, channelNext, stateAfter, after}
-use Rattle.engine.specs.Answer.{setsAbove}
+use Rattle.engine.specs.Answer.{setsAbove, stepNumber}
+use Rattle.engine.specs.Taken.{stateNumber}
 use Rattle.engine.specs.Examples.{words, stationed, stalls}
 use Rattle.text.specs.Ascii.{ascii}
 use Rattle.text.specs.Decimal.{places, decimal, signedText}
 use Rattle.text.specs.Lines.{showsValue, stateText, lineText, countText, closingText, refusedText}
 use Rattle.text.specs.Trace.{header, linesText, traceText}
+use Rattle.text.specs.Write.{writtenAnswer, writtenOver}
 use Rattle.tracer.specs.Input.{imageDue, imageOf, wordAt, wordCount, wordsOf, inputNumber}
 use Rattle.tracer.specs.Trace.{rowsFrom, firingsOf, traceOf, printed}
+use Rattle.tracer.specs.Done.{cycleText, lineAnswer, lineOver, closingAnswer, closingOver}
 
 -- a word below 256 as its bytes, and one whose bit 63 alone is set
 abbrev word : ℕ → List ℕ
@@ -198,4 +204,51 @@ numbered =
       then-14 = refl;
       at-12-high = refl;
       at-12-high-not = refl;
+    }
+
+-- ---- the calls for a line, on figure 4's fresh state: a slice with room, one a byte too short, a word that is refused, a state that does not fit
+abbrev fresh : State
+fresh = freshState figure4
+
+abbrev room : ℕ → List ℕ
+room n = replicate n 7
+
+record Called : Type 0 where
+  line-number : lineAnswer figure4 fresh 0 (room 18) .number ≡ 0
+  line-length : lineAnswer figure4 fresh 0 (room 18) .length ≡ 17
+  line-over : lineOver figure4 fresh 0 (room 18) ≡ text ("0 T10 T100 T0 T0" ∷ []) ++ (7 ∷ [])
+  line-short : lineAnswer figure4 fresh 0 (room 16) ≡ record { number = 13; length = 0; state = fresh }
+  line-short-over : lineOver figure4 fresh 0 (room 16) ≡ room 16
+  line-refused : lineAnswer figure4 fresh 32 (room 16) ≡ record { number = 12; length = 0; state = fresh }
+  closing : closingAnswer figure4 fresh (room 16) ≡ record { number = 0; length = 16 }
+  closing-over : closingOver figure4 fresh (room 16) ≡ text ("fired 0 0 0 0 0" ∷ [])
+  closing-short : closingAnswer figure4 fresh (room 15) ≡ record { number = 13; length = 0 }
+  closing-misfit : closingAnswer figure4 zeros (room 15) ≡ record { number = 21; length = 0 }
+  closing-misfit-over : closingOver figure4 zeros (room 16) ≡ room 16
+
+called : Called
+unfolding allBelow anyBelow sumBelow pickBelow signed padded table flatMap
+    nodes channels kind parameter wire from to port feeds depths stations depth inputs wrap exact nextValue portValue nextOf
+    judge badKind badWire badPort fedTwice notFed badStations badDepth
+    linkOf letter reading held stationOf placeAfter stopped leaving rowAfter
+    waiting queueOf full blocked arriving input stopBelow stopAbove seen channelAfter
+    nodeAt markAt stationAt queueAt channelIn stateOf freshState zeros
+    stalled inputAt blockedAt seenAt allReady anyBlocked fires nodeAfter channelNext stateAfter
+    zeroFrom cyclesFit firingsFit marksFit stationsFit countsFit nodeClear markClear stationClear queueClear unusedClear balanced fits
+    setsAbove stepNumber stateNumber
+    ascii places decimal signedText showsValue stateText lineText countText closingText
+    writtenAnswer writtenOver firingsOf cycleText lineAnswer lineOver closingAnswer closingOver
+called =
+    record {
+      line-number = refl;
+      line-length = refl;
+      line-over = refl;
+      line-short = refl;
+      line-short-over = refl;
+      line-refused = refl;
+      closing = refl;
+      closing-over = refl;
+      closing-short = refl;
+      closing-misfit = refl;
+      closing-misfit-over = refl;
     }
