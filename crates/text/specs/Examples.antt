@@ -6,7 +6,7 @@ use Rattle.laws.specs.Table.{table}
 use Rattle.relay.specs.Examples.{t, t-, r, i, s}
 use Rattle.text.specs.Ascii.{ascii}
 use Rattle.text.specs.Decimal.{places, decimal, signedText}
-use Rattle.text.specs.Lines.{showsValue, stateText, lineText, countText, closingText, refusedText, stateAt, rowOf}
+use Rattle.text.specs.Lines.{showsValue, stateText, lineText, countText, wordText, closingText, refusedText, stateAt, rowOf}
 use Rattle.text.specs.Trace.{header, linesText, traceText}
 use Rattle.text.specs.Write.{writtenAnswer, writtenOver}
 
@@ -34,11 +34,11 @@ unfolding lineText stateText showsValue signedText decimal places flatMap ascii
 lines = (refl, refl, refl)
 
 closing : (closingText (8 ∷ 0 ∷ 1000000 ∷ []) ≡ ascii "fired 8 0 1000000\n") × (closingText (3 ∷ []) ≡ ascii "fired 3\n")
-unfolding closingText countText decimal places flatMap ascii
+unfolding closingText wordText countText decimal places flatMap ascii
 closing = (refl, refl)
 
 refusal : (refusedText 3 ≡ ascii "refused 3\n") × (refusedText 12 ≡ ascii "refused 12\n")
-unfolding refusedText countText decimal places ascii
+unfolding refusedText wordText countText decimal places flatMap ascii
 refusal = (refl, refl)
 
 -- a row of two arrays, the second of them shorter
@@ -50,7 +50,7 @@ row = refl
 traces :
     (traceText ((t 10 ∷ i ∷ []) ∷ (r 11 ∷ t- 3 ∷ []) ∷ []) (2 ∷ 1 ∷ []) ≡ ascii "cycle states\n0 T10 I\n1 R11 T-3\nfired 2 1\n") ×
     (traceText [] (0 ∷ []) ≡ ascii "cycle states\nfired 0\n")
-unfolding traceText header linesText lineText closingText stateText countText showsValue signedText decimal places flatMap ascii
+unfolding traceText header linesText lineText closingText wordText stateText countText showsValue signedText decimal places flatMap ascii
 traces = (refl, refl)
 
 -- ---- a text of three bytes, written to slices of two, three and five

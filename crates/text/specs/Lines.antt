@@ -23,16 +23,20 @@ stateText x = code " " ∷ x .letter ∷ (signedText (x .value) if showsValue (x
 unfoldable pub lineText : ℕ → List Reading → List ℕ
 lineText cycle row = decimal cycle ++ (flatMap stateText row ++ ascii "\n")
 
--- the closing line: "then `fired` and each node's firings"
+-- a line of a word and numbers
 unfoldable pub countText : ℕ → List ℕ
 countText n = code " " ∷ decimal n
 
+unfoldable pub wordText : List ℕ → List ℕ → List ℕ
+wordText word counts = word ++ (flatMap countText counts ++ ascii "\n")
+
+-- the closing line: "then `fired` and each node's firings"
 unfoldable pub closingText : List ℕ → List ℕ
-closingText firings = ascii "fired" ++ (flatMap countText firings ++ ascii "\n")
+closingText firings = wordText (ascii "fired") firings
 
 -- "the line `refused` and the number"
 unfoldable pub refusedText : ℕ → List ℕ
-refusedText number = ascii "refused" ++ (countText number ++ ascii "\n")
+refusedText number = wordText (ascii "refused") (number ∷ [])
 
 -- the row of two parallel arrays: channel c's state; a letter beyond the last value has the value 0
 unfoldable pub stateAt : List ℕ → List ℤ → ℕ → Reading

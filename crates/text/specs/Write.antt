@@ -4,7 +4,8 @@ use mathlib.Core.List.{List, _++_}
 use mathlib.Core.Path.{_≡_}
 use Prim.Native.Nat.{ℕ}
 use lib.Dec.{ltb}
-use lib.ListN.{length, drop}
+use lib.ListN.{length, take, drop}
+use Rattle.io.specs.Counts.{Counts}
 use Rattle.laws.specs.Choice.{_if_else_}
 use Rattle.text.specs.declared.Written.{Written}
 
@@ -19,3 +20,8 @@ module _ (text out : List ℕ) where
 pub record WriteDone (text out : List ℕ) (answer : Written) (left : List ℕ) : Type 0 where
   pub answered : answer ≡ writtenAnswer text out
   pub over : left ≡ writtenOver text out
+
+-- the first `count` bytes of a slice are the text
+pub record Begins (bytes : List ℕ) (count : ℕ) (text : List ℕ) : Type 0 where
+  pub counts : Counts count bytes
+  pub text-is : take count bytes ≡ text

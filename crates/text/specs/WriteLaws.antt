@@ -2,20 +2,20 @@
 use mathlib.Core.List.{List, [], _∷_, _++_}
 use mathlib.Core.Bool.{true, false}
 use mathlib.Core.Logic.{⊎-elim}
-use mathlib.Core.Path.{_≡_, ap, _∙_}
+use mathlib.Core.Path.{_≡_, refl, sym, ap, _∙_}
 use Prim.Native.Nat.{ℕ, _+_, _-_, _≤_, _<_}
 use native.Mathlib.Nat.{zero-add}
 use native.Mathlib.Omega.{arith}
-use borrow.Author.Tests.{lt-ltb, le-ltb, ltb-false}
+use borrow.Author.Tests.{lt-ltb, le-ltb}
 use lib.Dec.{ltb}
-use lib.ListN.{length, set, length-append}
-use lib.Seq.{sets-eq}
+use lib.ListN.{length, set, take, drop, length-append}
+use lib.Seq.{sets-eq, take-at}
 use Rattle.laws.specs.Cases.{true-or-false}
 use Rattle.text.specs.declared.Written.{Written}
 use Rattle.text.specs.Ascii.{ascii}
 use Rattle.text.specs.Put.{Put}
 use Rattle.text.specs.PutLaws.{put-one, put-after, put-long}
-use Rattle.text.specs.Write.{writtenAnswer, writtenOver, WriteDone}
+use Rattle.text.specs.Write.{writtenAnswer, writtenOver, WriteDone, Begins}
 
 module _ (text out : List ℕ) where
   pub write-none : length out < length text → WriteDone text out (record { number = 13; length = 0 }) out
@@ -39,25 +39,26 @@ module _ {text out left : List ℕ} {answer : Written} (d : WriteDone text out a
   length-is : answer .length ≡ writtenAnswer text out .length
   length-is = ap (λ (a : Written). a .length) (d .answered)
 
-  -- what was written fits into the slice
-  pub written-few : answer .length ≤ length out
-  unfolding writtenAnswer
-  written-few =
-      ⊎-elim
-      (λ (e : ltb (length out) (length text) ≡ true). let n : answer .length ≡ 0 = length-is ∙ rw e in omega (arith, n))
-      (λ (e : ltb (length out) (length text) ≡ false).
-      let n : answer .length ≡ length text = length-is ∙ rw e in
-      let h = ltb-false (length out) (length text) e in
-      omega (arith, n, h))
-      (true-or-false (ltb (length out) (length text)))
-
-  -- and where there is a number, nothing was
+  -- where there is a number, nothing was written
   pub written-none : (answer .number ≡ 0 → ⊥) → answer .length ≡ 0
   unfolding writtenAnswer
   written-none n =
       ⊎-elim
       (λ (e : ltb (length out) (length text) ≡ true). length-is ∙ rw e)
       (λ (e : ltb (length out) (length text) ≡ false). absurd (n (number-is ∙ rw e)))
+      (true-or-false (ltb (length out) (length text)))
+
+  -- where there is none, the slice begins with the text
+  pub written-begins : answer .number ≡ 0 → Begins left (answer .length) text
+  unfolding writtenAnswer writtenOver
+  written-begins z =
+      ⊎-elim
+      (λ (e : ltb (length out) (length text) ≡ true). let n : answer .number ≡ 13 = number-is ∙ rw e in absurd (omega (arith, n, z)))
+      (λ (e : ltb (length out) (length text) ≡ false).
+      let n : answer .length ≡ length text = length-is ∙ rw e in
+      let l : left ≡ text ++ drop (length text) out = d .over ∙ rw e in
+      let t : take (answer .length) left ≡ text = rw (n, l) (take-at text (drop (length text) out) (length text) refl) in
+      record { counts = (rw (n, l, length-append) (omega arith), n ∙ sym (ap length t)); text-is = t })
       (true-or-false (ltb (length out) (length text)))
 
 -- ---- a line of two parts and a line feed, as every line is

@@ -6,11 +6,11 @@
 // measured before it is written.
 ghost use mathlib.Core.List.{flatMap};
 ghost use mathlib.Core.Path.{_≡_};
-ghost use Prim.Native.Nat.{_+_, _-_, _≤_};
+ghost use Prim.Native.Nat.{_+_, _*_, _-_, _<_, _≤_};
 ghost use lib.IntN.{pos};
 ghost use lib.ListN.{length, getD};
 ghost use Rattle.text.specs.Decimal.{decimal, signedText};
-ghost use Rattle.text.specs.Lines.{showsValue, stateText, lineText, countText, closingText, refusedText, rowOf};
+ghost use Rattle.text.specs.Lines.{showsValue, stateText, lineText, countText, wordText, closingText, refusedText, rowOf};
 ghost use Rattle.text.specs.Put.{Put};
 ghost use Rattle.text.specs.Trace.{header};
 ghost use Rattle.text.specs.Write.{WriteDone};
@@ -45,7 +45,7 @@ fn digits(n: u64) -> usize
 
 // How many bytes a token's value takes, a minus sign included.
 fn signed_length(token: i32) -> usize
-    ensures { λ r. ⌜ (r ≡ length (signedText token)) × (r ≤ 21) ⌝ }
+    ensures { λ r. ⌜ (r ≡ length (signedText token)) × (r ≤ 11) ⌝ }
 {
     let count = digits(output::magnitude(token));
     if token < 0 { count + 1 } else { count }
@@ -60,7 +60,7 @@ fn shows_value(letter: u8) -> bool
 
 // How many bytes a channel's state takes.
 fn state_length(letter: u8, value: i32) -> usize
-    ensures { λ r. ⌜ r ≡ length (stateText (record { letter = letter; value = value })) ⌝ }
+    ensures { λ r. ⌜ (r ≡ length (stateText (record { letter = letter; value = value }))) × (r ≤ 13) ⌝ }
 {
     if shows_value(letter) {
         return 2 + signed_length(value);
@@ -78,6 +78,7 @@ fn value_at(values: &[i32], c: usize) -> i32
 // What the states of a row leave of a room.
 fn less_states(room: usize, letters: &[u8], values: &[i32]) -> usize
     ensures { λ r. ⌜ r ≡ room - length (flatMap stateText (rowOf (now (letters .entry)) (now (values .entry)))) ⌝ }
+    ensures { λ r. ⌜ room ≤ r + 13 * length (now (letters .entry)) ⌝ }
 {
     let mut left = room;
     let mut c: usize = 0;
@@ -90,7 +91,7 @@ fn less_states(room: usize, letters: &[u8], values: &[i32]) -> usize
 
 // How many bytes a count takes, with the space before it.
 fn count_length(count: u32) -> usize
-    ensures { λ r. ⌜ r ≡ length (countText count) ⌝ }
+    ensures { λ r. ⌜ (r ≡ length (countText count)) × (r ≤ 11) ⌝ }
 {
     1 + digits(count as u64)
 }
@@ -98,6 +99,7 @@ fn count_length(count: u32) -> usize
 // What the counts of a closing line leave of a room.
 fn less_counts(room: usize, counts: &[u32]) -> usize
     ensures { λ r. ⌜ r ≡ room - length (flatMap countText (now (counts .entry))) ⌝ }
+    ensures { λ r. ⌜ room ≤ r + 11 * length (now (counts .entry)) ⌝ }
 {
     let mut left = room;
     let mut n: usize = 0;
@@ -199,9 +201,10 @@ pub fn header() -> [u8; 13]
 }
 
 // The line of a cycle: its number, and each channel's letter with its value for T and R. A letter
-// beyond the last value has the value 0.
+// beyond the last value has the value 0. A slice of 11 bytes and 13 for each letter is always enough.
 pub fn cycle_line(cycle: u32, letters: &[u8], values: &[i32], out: &mut [u8]) -> Written
     ensures { λ r. ⌜ WriteDone (lineText cycle (rowOf (now (letters .entry)) (now (values .entry)))) (now (out .entry)) r (now (out .exit)) ⌝ }
+    ensures { λ r. ⌜ (11 + 13 * length (now (letters .entry)) ≤ length (now (out .entry)) → r .number ≡ 0) ⌝ }
 {
     let number = cycle as u64;
     let room = less(out.len(), digits(number));
@@ -220,19 +223,20 @@ pub fn cycle_line(cycle: u32, letters: &[u8], values: &[i32], out: &mut [u8]) ->
     }
 }
 
-// The closing line, of each node's firings.
-pub fn closing_line(firings: &[u32], out: &mut [u8]) -> Written
-    ensures { λ r. ⌜ WriteDone (closingText (now (firings .entry))) (now (out .entry)) r (now (out .exit)) ⌝ }
+// A line of a word and counts.
+fn word_line(word: &[u8], counts: &[u32], out: &mut [u8]) -> Written
+    ensures { λ r. ⌜ WriteDone (wordText (now (word .entry)) (now (counts .entry))) (now (out .entry)) r (now (out .exit)) ⌝ }
+    ensures { λ r. ⌜ (length (now (word .entry)) + 11 * length (now (counts .entry)) < length (now (out .entry)) → r .number ≡ 0) ⌝ }
 {
-    let room = less(out.len(), 5);
-    if less_counts(room, firings) == 0 {
+    let room = less(out.len(), word.len());
+    if less_counts(room, counts) == 0 {
         return Written {
             number: 13,
             length: 0,
         };
     }
-    let first = put_bytes(b"fired", out, 0);
-    let last = put_counts(firings, out, first);
+    let first = put_bytes(word, out, 0);
+    let last = put_counts(counts, out, first);
     out[last] = b'\n';
     Written {
         number: 0,
@@ -240,23 +244,19 @@ pub fn closing_line(firings: &[u32], out: &mut [u8]) -> Written
     }
 }
 
-// The line of a refusal.
+// The closing line, of each node's firings. A slice of 6 bytes and 11 for each node is always enough.
+pub fn closing_line(firings: &[u32], out: &mut [u8]) -> Written
+    ensures { λ r. ⌜ WriteDone (closingText (now (firings .entry))) (now (out .entry)) r (now (out .exit)) ⌝ }
+    ensures { λ r. ⌜ (6 + 11 * length (now (firings .entry)) ≤ length (now (out .entry)) → r .number ≡ 0) ⌝ }
+{
+    word_line(b"fired", firings, out)
+}
+
+// The line of a refusal. A slice of 19 bytes is always enough.
 pub fn refused_line(number: u8, out: &mut [u8]) -> Written
     ensures { λ r. ⌜ WriteDone (refusedText number) (now (out .entry)) r (now (out .exit)) ⌝ }
+    ensures { λ r. ⌜ (19 ≤ length (now (out .entry)) → r .number ≡ 0) ⌝ }
 {
-    let count = number as u32;
-    let room = less(out.len(), 7);
-    if less(room, count_length(count)) == 0 {
-        return Written {
-            number: 13,
-            length: 0,
-        };
-    }
-    let first = put_bytes(b"refused", out, 0);
-    let last = put_count(count, out, first);
-    out[last] = b'\n';
-    Written {
-        number: 0,
-        length: last + 1,
-    }
+    let counts = [number as u32; 1];
+    word_line(b"refused", &counts, out)
 }

@@ -7,23 +7,17 @@ use Prim.Native.Nat.{ℕ}
 use lib.Dec.{eqb}
 use lib.ListN.{length}
 use Rattle.laws.specs.Choice.{_if_else_}
-use Rattle.laws.specs.Table.{table}
-use Rattle.netlist.specs.Image.{channels}
 use Rattle.state.specs.declared.State.{State}
-use Rattle.cycle.specs.Cycle.{seenAt, stateAfter}
+use Rattle.cycle.specs.Cycle.{stateAfter}
 use Rattle.engine.specs.Answer.{stepNumber}
 use Rattle.engine.specs.Taken.{stateNumber}
 use Rattle.text.specs.declared.Written.{Written}
-use Rattle.text.specs.Lines.{lineText, closingText}
+use Rattle.text.specs.Lines.{closingText}
 use Rattle.text.specs.Write.{writtenAnswer, writtenOver}
 use Rattle.tracer.specs.declared.Lined.{Lined}
-use Rattle.tracer.specs.Trace.{firingsOf}
+use Rattle.tracer.specs.Trace.{cycleText, firingsOf}
 
--- ---- the line of the cycle that a state begins
-unfoldable pub cycleText : List ℕ → State → List ℕ
-cycleText img s = lineText (s .cycles) (table (seenAt img s) (channels img))
-
--- a step's numbers, "1 to 11 rising ..; then 21, 22, 12" (96 places for letters and values are always enough), and then a writer's
+-- ---- the line of a cycle: a step's numbers, "1 to 11 rising ..; then 21, 22, 12" (96 places for letters and values are always enough), and then a writer's
 module _ (img : List ℕ) (s : State) (word : ℕ) (out : List ℕ) where
   unfoldable pub lineAnswer : Lined
   lineAnswer =

@@ -29,11 +29,11 @@ use Rattle.engine.specs.Taken.{stateNumber}
 use Rattle.text.specs.declared.Written.{Written}
 use Rattle.text.specs.Lines.{lineText, closingText, rowOf}
 use Rattle.text.specs.Write.{writtenAnswer, writtenOver, WriteDone}
-use Rattle.text.specs.WriteLaws.{written-few, written-none}
-use Rattle.tracer.specs.Trace.{firingsOf}
+use Rattle.text.specs.WriteLaws.{written-none}
+use Rattle.tracer.specs.Trace.{cycleText, firingsOf}
 use Rattle.tracer.specs.TraceLaws.{row-shown}
 use Rattle.tracer.specs.declared.Lined.{Lined}
-use Rattle.tracer.specs.Done.{cycleText, lineAnswer, lineOver, LineDone, closingAnswer, closingOver, ClosingDone}
+use Rattle.tracer.specs.Done.{lineAnswer, lineOver, LineDone, closingAnswer, closingOver, ClosingDone}
 
 -- ---- a step that is lent 96 places
 module _
@@ -142,43 +142,34 @@ module _ (img : List ℕ) (s : State) (out : List ℕ) where
       let t = take-table (firingsAt s) (nodes img) 64 (accepted img j .few-nodes) in
       record { answered = d .answered ∙ rw (← e, t); over = d .over ∙ rw (← e, t) }
 
--- ---- for callers: what was written fits into the slice
-done : (text out : List ℕ) → WriteDone text out (writtenAnswer text out) (writtenOver text out)
-done text out = record { answered = refl; over = refl }
-
-pub line-few :
-    {img : List ℕ} {s : State} {word : ℕ} {out left : List ℕ} {answer : Lined} → LineDone img s word out answer left → answer .length ≤ length out
-unfolding lineAnswer
-line-few {img} {s} {word} {out} {answer = answer} d =
-    let few = written-few (done (cycleText img s) out) in
-    let e = ap (λ (a : Lined). a .length) (d .answered) in
-    ⊎-elim
-    (λ (q : eqb (stepNumber img s word 96 96) 0 ≡ true). let n = rw q at e in omega (arith, n, few))
-    (λ (q : eqb (stepNumber img s word 96 96) 0 ≡ false). let n = rw q at e in omega (arith, n))
-    (true-or-false (eqb (stepNumber img s word 96 96) 0))
-
--- and number 0 says that a cycle was made
-pub line-after :
+-- ---- for callers: number 0 says that the line was written, and that the cycle was made
+pub line-made :
     {img : List ℕ} {s : State} {word : ℕ} {out left : List ℕ} {answer : Lined} → LineDone img s word out answer left → answer .number ≡ 0
-    → answer .state ≡ stateAfter img word s
-unfolding lineAnswer
-line-after {img} {s} {word} {out} {answer = answer} d z =
-    let e = ap (λ (a : Lined). a .state) (d .answered) in
+    → WriteDone (cycleText img s) out (record { number = 0; length = answer .length }) left × (answer .state ≡ stateAfter img word s)
+unfolding lineAnswer lineOver
+line-made {img} {s} {word} {out} {answer = answer} d z =
+    let number = stepNumber img s word 96 96 in
+    let written = writtenAnswer (cycleText img s) out in
     let n = sym (ap (λ (a : Lined). a .number) (d .answered)) ∙ z in
+    let l = ap (λ (a : Lined). a .length) (d .answered) in
     ⊎-elim
-    (λ (q : eqb (stepNumber img s word 96 96) 0 ≡ true).
-    let w : writtenAnswer (cycleText img s) out .number ≡ 0 = rw q at n in e ∙ rw (q, eq-eqb _ 0 w))
-    (λ (q : eqb (stepNumber img s word 96 96) 0 ≡ false).
-    let w : stepNumber img s word 96 96 ≡ 0 = rw q at n in absurd (eqb-false (stepNumber img s word 96 96) 0 q w))
-    (true-or-false (eqb (stepNumber img s word 96 96) 0))
+    (λ (q : eqb number 0 ≡ true).
+    let w : written .number ≡ 0 = rw q at n in
+    let t : answer .length ≡ written .length = rw q at l in (
+      record { answered = rw t (ap (λ k. record { number = k; length = written .length }) (sym w)); over = d .over ∙ rw q },
+      ap (λ (a : Lined). a .state) (d .answered) ∙ rw (q, eq-eqb _ 0 w),
+    ))
+    (λ (q : eqb number 0 ≡ false). let w : number ≡ 0 = rw q at n in absurd (eqb-false number 0 q w))
+    (true-or-false (eqb number 0))
 
-pub closing-few :
-    {img : List ℕ} {s : State} {out left : List ℕ} {answer : Written} → ClosingDone img s out answer left → answer .length ≤ length out
-unfolding closingAnswer
-closing-few {img} {s} {out} {answer = answer} d =
-    let few = written-few (done (closingText (firingsOf img s)) out) in
-    let e = ap (λ (a : Written). a .length) (d .answered) in
+pub closing-made :
+    {img : List ℕ} {s : State} {out left : List ℕ} {answer : Written} → ClosingDone img s out answer left → answer .number ≡ 0
+    → WriteDone (closingText (firingsOf img s)) out answer left
+unfolding closingAnswer closingOver
+closing-made {img} {s} {out} {answer = answer} d z =
+    let n = sym (ap (λ (a : Written). a .number) (d .answered)) ∙ z in
     ⊎-elim
-    (λ (q : eqb (stateNumber img s) 0 ≡ true). let n = rw q at e in omega (arith, n, few))
-    (λ (q : eqb (stateNumber img s) 0 ≡ false). let n = rw q at e in omega (arith, n))
+    (λ (q : eqb (stateNumber img s) 0 ≡ true). record { answered = d .answered ∙ rw q; over = d .over ∙ rw q })
+    (λ (q : eqb (stateNumber img s) 0 ≡ false).
+    let w : stateNumber img s ≡ 0 = rw q at n in absurd (eqb-false (stateNumber img s) 0 q w))
     (true-or-false (eqb (stateNumber img s) 0))

@@ -31,12 +31,12 @@ use Rattle.engine.specs.Taken.{stateNumber}
 use Rattle.engine.specs.Examples.{words, stationed, stalls}
 use Rattle.text.specs.Ascii.{ascii}
 use Rattle.text.specs.Decimal.{places, decimal, signedText}
-use Rattle.text.specs.Lines.{showsValue, stateText, lineText, countText, closingText, refusedText}
+use Rattle.text.specs.Lines.{showsValue, stateText, lineText, countText, wordText, closingText, refusedText}
 use Rattle.text.specs.Trace.{header, linesText, traceText}
 use Rattle.text.specs.Write.{writtenAnswer, writtenOver}
 use Rattle.tracer.specs.Input.{imageDue, imageOf, wordAt, wordCount, wordsOf, inputNumber}
-use Rattle.tracer.specs.Trace.{rowsFrom, firingsOf, traceOf, printed}
-use Rattle.tracer.specs.Done.{cycleText, lineAnswer, lineOver, closingAnswer, closingOver}
+use Rattle.tracer.specs.Trace.{rowsFrom, cycleText, firingsOf, traceOf, printed}
+use Rattle.tracer.specs.Done.{lineAnswer, lineOver, closingAnswer, closingOver}
 
 -- a word below 256 as its bytes, and one whose bit 63 alone is set
 abbrev word : ℕ → List ℕ
@@ -125,7 +125,7 @@ unfolding allBelow anyBelow sumBelow pickBelow signed padded table flatMap
     waiting queueOf full blocked arriving input stopBelow stopAbove seen channelAfter
     nodeAt markAt stationAt queueAt channelIn stateOf freshState
     stalled inputAt blockedAt seenAt allReady anyBlocked fires nodeAfter channelNext stateAfter after
-    setsAbove ascii places decimal signedText showsValue stateText lineText countText closingText refusedText header linesText traceText
+    setsAbove ascii places decimal signedText showsValue stateText lineText countText wordText closingText refusedText header linesText traceText
     imageDue imageOf wordAt wordCount wordsOf inputNumber rowsFrom firingsOf traceOf printed
 all-printed =
     record {
@@ -236,7 +236,7 @@ unfolding allBelow anyBelow sumBelow pickBelow signed padded table flatMap
     stalled inputAt blockedAt seenAt allReady anyBlocked fires nodeAfter channelNext stateAfter
     zeroFrom cyclesFit firingsFit marksFit stationsFit countsFit nodeClear markClear stationClear queueClear unusedClear balanced fits
     setsAbove stepNumber stateNumber
-    ascii places decimal signedText showsValue stateText lineText countText closingText
+    ascii places decimal signedText showsValue stateText lineText countText wordText closingText
     writtenAnswer writtenOver firingsOf cycleText lineAnswer lineOver closingAnswer closingOver
 called =
     record {

@@ -1,10 +1,10 @@
 -- The number of an input of any length is given by its length and its first 33,570 bytes: no image is longer than 802 and 4,096 words take 32,768, so
--- in a longer input no word is looked at.
+-- in a longer input no word is looked at, and it is refused.
 use mathlib.Core.Bool.{Bool, true, false}
 use mathlib.Core.List.{List}
 use mathlib.Core.Logic.{⊎-elim}
 use mathlib.Core.Path.{_≡_, sym, ap, _∙_}
-use Prim.Native.Nat.{ℕ, _-_, _/_, _%_, _<_, _≤_}
+use Prim.Native.Nat.{ℕ, _-_, _/_, _%_, _<_, _≤_, min}
 use native.Mathlib.Omega.{arith}
 use borrow.Author.Tests.{lt-ltb, eqb-true}
 use lib.Dec.{eqb}
@@ -16,7 +16,7 @@ use Rattle.netlist.specs.Judge.{judge}
 use Rattle.netlist.specs.AcceptedLaws.{accepted}
 use Rattle.netlist.specs.Head.{head-judges}
 use Rattle.tracer.specs.Input.{imageDue, imageOf, anyAbove, numberFrom, inputNumber}
-use Rattle.tracer.specs.InputLaws.{image-sizes}
+use Rattle.tracer.specs.InputLaws.{image-sizes, number-clear}
 
 -- of two stretches from the front the order does not count
 take-both : (a b : ℕ) (l : List ℕ) → take a (take b l) ≡ take b (take a l)
@@ -69,3 +69,11 @@ module _ (input : List ℕ) (k : ℕ) (h : 33570 ≤ k) where
       (unlooked (judge (imageOf input)) (length input - imageDue input) (anyAbove (take k input)) (anyAbove input) (head-long l)))
       (λ (l : length input ≤ k). ap (λ i. inputNumber i (length input)) (take-all k input l))
       (lt-or-ge k (length input))
+
+-- one that is not refused was kept whole
+pub head-whole : (head : List ℕ) (size : ℕ) → length head ≡ min size 33570 → inputNumber head size ≡ 0 → size ≡ length head
+unfolding imageDue
+head-whole head size l e =
+    let n = number-clear head size e in
+    let a = accepted (imageOf head) (n .0) in
+    omega (arith, l, n .1, n .2, a .few-nodes, a .few-channels, image-sizes head)

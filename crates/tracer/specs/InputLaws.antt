@@ -100,13 +100,18 @@ clear zero tail above e =
     (refl, eqb-true (tail % 8) 0 (not-false (eqb (tail % 8) 0) (h3 .0)), ltb-false 4096 (tail / 8) (h14 .0), h12 .0)
 clear (suc k) tail above e = absurd (never k (ltb (suc k) 4) (not (eqb (tail % 8) 0)) (rw (ne-eqb (suc k) 0 (λ q. omega arith)) at e))
 
+pub number-clear :
+    (input : List ℕ) (size : ℕ) → inputNumber input size ≡ 0
+    → (judge (imageOf input) ≡ 0) × ((size - imageDue input) % 8 ≡ 0) × ((size - imageDue input) / 8 ≤ 4096) × (anyAbove input ≡ false)
+unfolding inputNumber
+number-clear input size e = clear (judge (imageOf input)) (size - imageDue input) (anyAbove input) e
+
 -- ---- an input whose number is 0
 module _ (input : List ℕ) (e : inputNumber input (length input) ≡ 0) where
-  none :
+  abbrev none :
       (judge (imageOf input) ≡ 0) × ((length input - imageDue input) % 8 ≡ 0) × ((length input - imageDue input) / 8 ≤ 4096)
       × (anyAbove input ≡ false)
-  unfolding inputNumber
-  none = clear (judge (imageOf input)) (length input - imageDue input) (anyAbove input) e
+  none = number-clear input (length input) e
 
   -- its image is accepted,
   pub input-accepted : judge (imageOf input) ≡ 0

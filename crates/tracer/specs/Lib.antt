@@ -7,7 +7,6 @@ pub mod Examples
 -- For the program: what number 0 says of an input; the trace line by line; that no step is refused; that the first 33,570 bytes of an input and its
 -- length decide.
 pub mod InputLaws
-pub mod Lines
 pub mod TraceLaws
 pub mod StepsLaws
 pub mod DoneLaws

@@ -12,7 +12,7 @@ use Rattle.state.specs.declared.State.{State}
 use Rattle.state.specs.State.{firingsAt}
 use Rattle.state.specs.Fresh.{freshState}
 use Rattle.cycle.specs.Cycle.{seenAt, stateAfter, after}
-use Rattle.text.specs.Lines.{refusedText}
+use Rattle.text.specs.Lines.{lineText, refusedText}
 use Rattle.text.specs.Trace.{traceText}
 use Rattle.tracer.specs.Input.{imageOf, wordsOf, inputNumber}
 
@@ -20,6 +20,10 @@ use Rattle.tracer.specs.Input.{imageOf, wordsOf, inputNumber}
 unfoldable pub rowsFrom : List ℕ → State → List ℕ → List (List Reading)
 rowsFrom img s [] = []
 rowsFrom img s (word ∷ words) = table (seenAt img s) (channels img) ∷ rowsFrom img (stateAfter img word s) words
+
+-- the line of the cycle that a state begins
+unfoldable pub cycleText : List ℕ → State → List ℕ
+cycleText img s = lineText (s .cycles) (table (seenAt img s) (channels img))
 
 -- "each node's firings"
 unfoldable pub firingsOf : List ℕ → State → List ℕ

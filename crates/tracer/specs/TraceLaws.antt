@@ -1,8 +1,7 @@
--- The trace is its header, the lines of its cycles and the closing line, each cycle's line made from what a step writes. Assumes nothing.
+-- The trace is its header, the line of each cycle and the closing line. Assumes nothing.
 use mathlib.Core.List.{List, [], _∷_, _++_, flatMap}
-use mathlib.Core.Path.{_≡_, refl, ap, _∙_}
-use Prim.Native.Nat.{ℕ, zero, suc, _+_}
-use native.Mathlib.Omega.{arith}
+use mathlib.Core.Path.{_≡_, refl, sym, ap, _∙_}
+use Prim.Native.Nat.{ℕ, zero, suc}
 use lib.IntN.{pos}
 use lib.ListN.{length, take}
 use Rattle.laws.specs.Table.{table}
@@ -10,14 +9,15 @@ use Rattle.laws.specs.TableLaws.{length-table, table-at, table-same}
 use Rattle.netlist.specs.Image.{channels}
 use Rattle.state.specs.declared.State.{State}
 use Rattle.state.specs.Fresh.{freshState}
+use Rattle.state.specs.FreshLaws.{fresh-cycles}
 use Rattle.cycle.specs.Cycle.{seenAt, stateAfter, after, lettersOf, valuesOf}
-use Rattle.text.specs.Lines.{lineText, closingText, stateAt, rowOf}
+use Rattle.cycle.specs.CycleLaws.{cycles-next}
+use Rattle.text.specs.Lines.{closingText, stateAt, rowOf}
 use Rattle.text.specs.Trace.{header, linesText, traceText}
-use Rattle.tracer.specs.Trace.{rowsFrom, firingsOf, traceOf}
-use Rattle.tracer.specs.Lines.{rowShown, lineAt}
+use Rattle.tracer.specs.Trace.{rowsFrom, cycleText, firingsOf, traceOf}
 
--- the row of a cycle is what its letters and values show
-pub row-shown : (img : List ℕ) (s : State) → table (seenAt img s) (channels img) ≡ rowShown img s
+-- the row of a cycle, from the letters and values that a step writes
+pub row-shown : (img : List ℕ) (s : State) → table (seenAt img s) (channels img) ≡ rowOf (lettersOf img s) (valuesOf img s)
 unfolding rowOf stateAt lettersOf valuesOf
 row-shown img s =
     let n = channels img in
@@ -31,32 +31,28 @@ unfolding table
 table-first f zero = refl
 table-first f (suc n) = rw (table-first f n)
 
--- row k is that of the state after the first k words
-lines-joined :
-    (img : List ℕ) (cycle : ℕ) (s : State) (words : List ℕ) → linesText cycle (rowsFrom img s words) ≡
-    flatMap (λ line. line) (table (λ k. lineText (cycle + k) (rowShown img (after img s (take k words)))) (length words))
-unfolding linesText rowsFrom table flatMap after
-lines-joined img cycle s [] = refl
-lines-joined img cycle s (word ∷ words) =
-    let t = stateAfter img word s in
-    let f : ℕ → List ℕ = λ k. lineText (cycle + k) (rowShown img (after img s (take k (word ∷ words)))) in
-    let rest : linesText (suc cycle) (rowsFrom img t words) ≡ flatMap (λ line. line) (table (λ k. f (suc k)) (length words)) =
-    lines-joined img (suc cycle) t words
-    ∙ ap (flatMap (λ line. line))
-    (table-same _ _ (length words)
-    (λ k h. let e : suc cycle + k ≡ cycle + suc k = omega arith in ap (λ n. lineText n (rowShown img (after img t (take k words)))) e)) in
-    let z : cycle + 0 ≡ cycle = omega arith in
-    rw (rest, row-shown img s, table-first f (length words), z)
+module _ (img : List ℕ) where
+  -- the line of the cycle that follows the first k words
+  abbrev pub lineAfter : State → List ℕ → ℕ → List ℕ
+  lineAfter s words k = cycleText img (after img s (take k words))
 
-pub trace-lines :
-    (img words : List ℕ) → traceOf img words ≡
-    header
-    ++ (flatMap (λ line. line) (table (lineAt img words) (length words)) ++ closingText (firingsOf img (after img (freshState img) words)))
-unfolding traceOf traceText
-trace-lines img words =
-    let s = freshState img in
-    ap (λ l. header ++ (l ++ closingText (firingsOf img (after img s words))))
-    (lines-joined img 0 s words
-    ∙ ap (flatMap (λ line. line))
-    (table-same _ _ (length words)
-    (λ k h. let e : 0 + k ≡ k = omega arith in ap (λ n. lineText n (rowShown img (after img s (take k words)))) e)))
+  lines-joined :
+      (s : State) (words : List ℕ)
+      → linesText (s .cycles) (rowsFrom img s words) ≡ flatMap (λ line. line) (table (lineAfter s words) (length words))
+  unfolding linesText rowsFrom cycleText table flatMap after
+  lines-joined s [] = refl
+  lines-joined s (word ∷ words) =
+      let t = stateAfter img word s in
+      let rest = ap (λ n. linesText n (rowsFrom img t words)) (sym (cycles-next img word s)) ∙ lines-joined t words in
+      rw (rest, table-first (lineAfter s (word ∷ words)) (length words))
+
+  pub trace-lines :
+      (words : List ℕ)
+      → let s = freshState img in
+      traceOf img words ≡
+      header ++ (flatMap (λ line. line) (table (lineAfter s words) (length words)) ++ closingText (firingsOf img (after img s words)))
+  unfolding traceOf traceText
+  trace-lines words =
+      let s = freshState img in
+      ap (λ l. header ++ (l ++ closingText (firingsOf img (after img s words))))
+      (ap (λ n. linesText n (rowsFrom img s words)) (sym (fresh-cycles img)) ∙ lines-joined s words)

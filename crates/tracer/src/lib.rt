@@ -4,11 +4,13 @@
 use state::State;
 use text::Written;
 ghost use mathlib.Core.Path.{_≡_};
-ghost use Prim.Native.Nat.{_-_};
+ghost use Prim.Native.Nat.{_-_, _≤_};
 ghost use lib.ListN.{length, getD};
 ghost use Rattle.io.specs.Counts.{Counts};
 ghost use Rattle.laws.specs.Table.{table};
 ghost use Rattle.state.specs.State.{firingsAt};
+ghost use Rattle.engine.specs.Answer.{stepNumber};
+ghost use Rattle.engine.specs.Taken.{stateNumber};
 ghost use Rattle.tracer.specs.Input.{imageDue, imageOf, wordCount, wordsOf, anyAbove, inputNumber};
 ghost use Rattle.tracer.specs.Done.{LineDone, ClosingDone};
 
@@ -118,9 +120,11 @@ pub fn input_number(head: &[u8], size: u64) -> u8
 }
 
 // One cycle with a stall word, and its line at the start of `out`. The numbers are a step's, and 13
-// where `out` is shorter than the line; then nothing is written and the state stays.
+// where `out` is shorter than the line, which has 1,259 bytes at most; then nothing is written and
+// the state stays.
 pub fn cycle_line(image: &[u8], state: State, word: u64, out: &mut [u8]) -> Lined
     ensures { λ r. ⌜ LineDone (now (image .entry)) state word (now (out .entry)) r (now (out .exit)) ⌝ }
+    ensures { λ r. ⌜ (1259 ≤ length (now (out .entry)) → r .number ≡ stepNumber (now (image .entry)) state word 96 96) ⌝ }
 {
     let mut letters = [0u8; 96];
     let mut values = [0i32; 96];
@@ -162,9 +166,10 @@ fn firings_of(state: State) -> [u32; 64]
 }
 
 // The closing line after a state, at the start of `out`. The numbers are the judge's, 21, and 13 where
-// `out` is shorter than the line; then nothing is written.
+// `out` is shorter than the line, which has 710 bytes at most; then nothing is written.
 pub fn closing_line(image: &[u8], state: State, out: &mut [u8]) -> Written
     ensures { λ r. ⌜ ClosingDone (now (image .entry)) state (now (out .entry)) r (now (out .exit)) ⌝ }
+    ensures { λ r. ⌜ (710 ≤ length (now (out .entry)) → r .number ≡ stateNumber (now (image .entry)) state) ⌝ }
 {
     let judged = netlist::judge(image);
     if judged != 0 {

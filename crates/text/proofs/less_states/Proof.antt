@@ -1,7 +1,7 @@
 -- `text::less_states` meets its contract. Assumes nothing.
 use mathlib.Core.List.{flatMap}
 use mathlib.Core.Path.{_≡_, _∙_}
-use Prim.Native.Nat.{_-_, _≤_}
+use Prim.Native.Nat.{_+_, _*_, _-_, _≤_}
 use native.Mathlib.Omega.{arith}
 use lib.ListN.{length, getD}
 use mir.Syntax.{w32}
@@ -15,7 +15,8 @@ use Rattle.text.proofs.less_states.Statement.{statement}
 use Rattle.text.proofs.less_states.Tie as tie
 
 abbrev Inv-loop : tie.InvT-loop
-Inv-loop room letters values left₀ c₀ left c = (c ≤ length letters) × (left ≡ room - length (flatMap stateText (table (stateAt letters values) c)))
+Inv-loop room letters values left₀ c₀ left c =
+    (c ≤ length letters) × (left ≡ room - length (flatMap stateText (table (stateAt letters values) c))) × (room ≤ left + 13 * c)
 
 abbrev μ-loop : tie.MeasureT-loop
 μ-loop room letters values left₀ c₀ left c = length letters - c
@@ -33,7 +34,7 @@ shown c =
     state-read (a .letters .now) (a .values .now) (l .c) (toZ-ofZ (told (c .value-at .result) (c .value-at .ok)) ∙ c .value-at .ensures)
 
 loop-holds : tie.Need-loop-holds Inv-loop μ-loop
-loop-holds c = let a = c .before .args in (omega arith, rw (flat-none stateText (stateAt (a .letters .now) (a .values .now))) (omega arith))
+loop-holds c = let a = c .before .args in (omega arith, rw (flat-none stateText (stateAt (a .letters .now) (a .values .now))) (omega arith), omega arith)
 
 shared-slice-read-state-length : tie.Need-shared-slice-read-state-length Inv-loop μ-loop
 shared-slice-read-state-length c = omega arith
@@ -57,15 +58,18 @@ loop-again : tie.Need-loop-again Inv-loop μ-loop
 loop-again c = let v = c .before .before in
     let a = (v .before .before .before .before .before) .args in
     let l = (v .before .before .before) .loop in
-    let e = room-next stateText (stateAt (a .letters .now) (a .values .now)) (a .room) (l .c) in
-    (omega arith, c .less .ensures ∙ rw (l .inv .1, c .before .state-length .ensures, shown v) e)
+    let e = room-next stateText (stateAt (a .letters .now) (a .values .now)) (a .room) (l .c) in (
+      omega arith,
+      c .less .ensures ∙ rw (l .inv .1, c .before .state-length .ensures .0, shown v) e,
+      omega (arith, c .less .ensures, c .before .state-length .ensures .1, l .inv .2),
+    )
 
 returns : tie.Need-returns Inv-loop μ-loop
 unfolding rowOf
 returns c = let a = (c .before .before .before) .args in
     let l = (c .before) .loop in
     let e : l .c ≡ length (a .letters .now) = omega arith in
-    l .inv .1 ∙ rw e
+    (l .inv .1 ∙ rw e, omega (arith, l .inv .2, e))
 
 pub less-states-spec : {M : Type 1} → statement M
 less-states-spec =

@@ -6,7 +6,7 @@ use lib.IntN.{natAbs}
 use lib.ListN.{length}
 use mir.Facts.{toZ-ofZ}
 use Rattle.text.specs.Decimal.{decimal}
-use Rattle.text.specs.DecimalLaws.{signed-minus, signed-plain}
+use Rattle.text.specs.DecimalLaws.{signed-minus, signed-plain, signed-short}
 use Rattle.text.proofs.signed_length.Statement.{statement}
 use Rattle.text.proofs.signed_length.Tie as tie
 
@@ -29,13 +29,13 @@ returns : tie.Need-returns
 returns c = let s = c .before .before .before in
     let f = s .fits .token in
     let e = ap length (signed-minus (s .args .token) (simp toZ-ofZ at (c .if1 .taken))) in
-    (omega (arith, e, far (c .before)), omega (arith, c .before .digits .ensures))
+    omega (arith, e, far (c .before), signed-short (s .args .token) (f .sfits))
 
 returns-2 : tie.Need-returns-2
 returns-2 c = let s = c .before .before .before in
     let f = s .fits .token in
     let e = ap length (signed-plain (s .args .token) (simp toZ-ofZ at (c .if1 .left))) in
-    (omega (arith, e, far (c .before)), omega (arith, c .before .digits .ensures))
+    omega (arith, e, far (c .before), signed-short (s .args .token) (f .sfits))
 
 pub signed-length-spec : {M : Type 1} → statement M
 signed-length-spec =

@@ -21,7 +21,7 @@ unfolding stateText
 returns c = let f = (c .before .before .before) .fits .value in
     let e = simp toZ-ofZ at (c .signed-length .ensures .0) in
     let b = sym (c .before .before .shows-value .ensures) ∙ c .before .if1 .taken in
-    rw b (omega (arith, e))
+    rw b (omega (arith, e, c .signed-length .ensures .1))
 
 returns-2 : tie.Need-returns-2
 unfolding stateText

@@ -1,12 +1,12 @@
 -- `tracer::cycle_line` meets its contract. Assumes nothing.
 use mathlib.Core.Path.{_≡_, refl, sym, _∙_}
-use Prim.Native.Nat.{_≤_}
+use Prim.Native.Nat.{ℕ, _+_, _*_, _≤_}
 use native.Mathlib.Omega.{arith}
 use borrow.Author.Needs.{needs}
 use lib.ListN.{length, take}
 use lib.Seq.{length-take-le}
 use Rattle.text.specs.Lines.{lineText, rowOf}
-use Rattle.tracer.specs.Done.{cycleText}
+use Rattle.tracer.specs.Trace.{cycleText}
 use Rattle.tracer.specs.DoneLaws.{step-number, step-accepted, step-state, step-text, line-refused, line-long, line-written}
 use Rattle.tracer.proofs.cycle_line.Statement.{statement}
 use Rattle.tracer.proofs.cycle_line.Tie as tie
@@ -22,6 +22,14 @@ lettered c = omega (arith, enough c, c .before .before .before .before .before .
 
 valued : (c : tie.After-channels) → c .channels .result ≤ length (c .before .before .before .before .before .step .last .1 .1 .1 .1 .0)
 valued c = omega (arith, enough c, c .before .before .before .before .before .step .kept .1 .1 .1 .1 .0)
+
+-- the longest line has room
+few :
+    (c : tie.After-channels) {room : ℕ} → 1259 ≤ room
+    → 11 + 13 * length (take (c .channels .result) (c .before .before .before .before .before .step .last .1 .1 .1 .0)) ≤ room
+few c h =
+    let letters = c .before .before .before .before .before .step .last .1 .1 .1 .0 in
+    omega (arith, h, enough c, length-take-le (c .channels .result) letters (lettered c))
 
 -- what is written is the cycle's line
 shown :
@@ -43,8 +51,8 @@ step-requires c κs = search needs
 
 returns : tie.Need-returns
 returns c = let a = (c .before .before .before .before .before .before .before .before .before) .args in
-    line-refused (a .image .now) (a .state) (a .word) (a .out .now) (step-number (c .before .before .before .before .step .ensures) refl refl)
-    (c .if1 .taken)
+    let n = step-number (c .before .before .before .before .step .ensures) refl refl in
+    (line-refused (a .image .now) (a .state) (a .word) (a .out .now) n (c .if1 .taken), λ h. n)
 
 channels-requires : tie.Need-channels-requires
 channels-requires c κs = search needs
@@ -76,7 +84,8 @@ returns-2 : tie.Need-returns-2
 returns-2 c = let k = c .before .before .before .before .before .before .before .before in
     let a = (k .before .before .before .before .before .before .before .before .before .before) .args in
     let n = sym (k .before .if1 .left) ∙ step-number (k .before .before .before .before .before .step .ensures) refl refl in
-    line-long (a .image .now) (a .state) (a .word) (a .out .now) n (shown k) (c .before .before .before .before .cycle-line .ensures) (c .if2 .taken)
+    let w = c .before .before .before .before .cycle-line .ensures in
+    (line-long (a .image .now) (a .state) (a .word) (a .out .now) n (shown k) (w .0) (c .if2 .taken), λ h. absurd (c .if2 .taken (w .1 (few k h))))
 
 same-length-2 : tie.Need-same-length-2
 same-length-2 c = search needs
@@ -85,10 +94,12 @@ returns-3 : tie.Need-returns-3
 returns-3 c = let k = c .before .before .before .before .before .before .before .before .before in
     let a = (k .before .before .before .before .before .before .before .before .before .before) .args in
     let d = k .before .before .before .before .before .step .ensures in
-    let n = sym (k .before .if1 .left) ∙ step-number d refl refl in
-    line-written (a .image .now) (a .state) (a .word) (a .out .now) n (shown k) (c .before .before .before .before .before .cycle-line .ensures)
-    (c .before .if2 .left)
-    (step-state d refl refl (k .before .if1 .left))
+    let n = sym (k .before .if1 .left) ∙ step-number d refl refl in (
+      line-written (a .image .now) (a .state) (a .word) (a .out .now) n (shown k) (c .before .before .before .before .before .cycle-line .ensures .0)
+          (c .before .if2 .left)
+          (step-state d refl refl (k .before .if1 .left)),
+      λ h. n,
+    )
 
 pub cycle-line-spec : {M : Type 1} → statement M
 cycle-line-spec =
