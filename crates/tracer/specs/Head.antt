@@ -1,6 +1,6 @@
 -- The number of an input of any length is given by its length and its first 33,570 bytes: no image is longer than 802 and 4,096 words take 32,768, so
 -- in a longer input no word is looked at, and it is refused.
-use mathlib.Core.Bool.{Bool, true, false}
+use mathlib.Core.Bool.{Bool, true, false, not}
 use mathlib.Core.List.{List}
 use mathlib.Core.Logic.{⊎-elim}
 use mathlib.Core.Path.{_≡_, sym, ap, _∙_}
@@ -11,12 +11,15 @@ use lib.Dec.{eqb}
 use lib.ListN.{length, take, length-take}
 use lib.Seq.{getD-take, take-all, take-take}
 use Rattle.laws.specs.Cases.{true-or-false, lt-or-ge}
+use Rattle.laws.specs.Choice.{_if_else_}
 use Rattle.netlist.specs.Image.{nodes, channels}
 use Rattle.netlist.specs.Judge.{judge}
 use Rattle.netlist.specs.AcceptedLaws.{accepted}
 use Rattle.netlist.specs.Head.{head-judges}
-use Rattle.tracer.specs.Input.{imageDue, imageOf, anyAbove, numberFrom, inputNumber}
+use Rattle.text.specs.Lines.{refusedText}
+use Rattle.tracer.specs.Input.{imageDue, imageOf, wordsOf, anyAbove, numberFrom, inputNumber}
 use Rattle.tracer.specs.InputLaws.{image-sizes, number-clear}
+use Rattle.tracer.specs.Trace.{traceOf, printed}
 
 -- of two stretches from the front the order does not count
 take-both : (a b : ℕ) (l : List ℕ) → take a (take b l) ≡ take b (take a l)
@@ -77,3 +80,22 @@ head-whole head size l e =
     let n = number-clear head size e in
     let a = accepted (imageOf head) (n .0) in
     omega (arith, l, n .1, n .2, a .few-nodes, a .few-channels, image-sizes head)
+
+-- so a program that keeps so many bytes and counts the others can print what is due for the whole input
+pub head-prints :
+    (input : List ℕ)
+    → let head = take 33570 input in
+    let number = inputNumber head (length input) in
+    printed input ≡ (refusedText number if not (eqb number 0) else traceOf (imageOf head) (wordsOf head))
+unfolding printed
+head-prints input =
+    let head = take 33570 input in
+    let number = inputNumber head (length input) in
+    let kept : length head ≡ min (length input) 33570 = omega (arith, length-take 33570 input) in
+    let e = head-decides input 33570 (omega arith) in
+    ⊎-elim
+    (λ (z : eqb number 0 ≡ true).
+    let whole = head-whole head (length input) kept (eqb-true number 0 z) in
+    rw (← e, z, take-all 33570 input (omega (arith, whole, kept))))
+    (λ (z : eqb number 0 ≡ false). rw (← e, z))
+    (true-or-false (eqb number 0))
