@@ -28,7 +28,7 @@ use Rattle.engine.specs.Done.{StepDone}
 use Rattle.engine.specs.Taken.{stateNumber}
 use Rattle.text.specs.declared.Written.{Written}
 use Rattle.text.specs.Lines.{lineText, closingText, rowOf}
-use Rattle.text.specs.Write.{writtenAnswer, writtenOver, WriteDone}
+use Rattle.text.specs.Write.{writtenAnswer, WriteDone}
 use Rattle.text.specs.WriteLaws.{written-none}
 use Rattle.tracer.specs.Trace.{cycleText, firingsOf}
 use Rattle.tracer.specs.TraceLaws.{row-shown}

@@ -16,14 +16,17 @@ use Rattle.text.specs.Lines.{lineText, refusedText}
 use Rattle.text.specs.Trace.{traceText}
 use Rattle.tracer.specs.Input.{imageOf, wordsOf, inputNumber}
 
--- "for each cycle .. each channel's letter, with its value"
+-- "for each cycle .. each channel's letter, with its value": the row of the cycle that a state begins, and of each cycle from there on
+abbrev pub rowSeen : List ℕ → State → List Reading
+rowSeen img s = table (seenAt img s) (channels img)
+
 unfoldable pub rowsFrom : List ℕ → State → List ℕ → List (List Reading)
 rowsFrom img s [] = []
-rowsFrom img s (word ∷ words) = table (seenAt img s) (channels img) ∷ rowsFrom img (stateAfter img word s) words
+rowsFrom img s (word ∷ words) = rowSeen img s ∷ rowsFrom img (stateAfter img word s) words
 
--- the line of the cycle that a state begins
+-- that cycle's line
 unfoldable pub cycleText : List ℕ → State → List ℕ
-cycleText img s = lineText (s .cycles) (table (seenAt img s) (channels img))
+cycleText img s = lineText (s .cycles) (rowSeen img s)
 
 -- "each node's firings"
 unfoldable pub firingsOf : List ℕ → State → List ℕ

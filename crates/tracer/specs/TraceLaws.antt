@@ -14,10 +14,10 @@ use Rattle.cycle.specs.Cycle.{seenAt, stateAfter, after, lettersOf, valuesOf}
 use Rattle.cycle.specs.CycleLaws.{cycles-next}
 use Rattle.text.specs.Lines.{closingText, stateAt, rowOf}
 use Rattle.text.specs.Trace.{header, linesText, traceText}
-use Rattle.tracer.specs.Trace.{rowsFrom, cycleText, firingsOf, traceOf}
+use Rattle.tracer.specs.Trace.{rowSeen, rowsFrom, cycleText, firingsOf, traceOf}
 
 -- the row of a cycle, from the letters and values that a step writes
-pub row-shown : (img : List ℕ) (s : State) → table (seenAt img s) (channels img) ≡ rowOf (lettersOf img s) (valuesOf img s)
+pub row-shown : (img : List ℕ) (s : State) → rowSeen img s ≡ rowOf (lettersOf img s) (valuesOf img s)
 unfolding rowOf stateAt lettersOf valuesOf
 row-shown img s =
     let n = channels img in
