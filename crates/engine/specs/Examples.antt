@@ -11,7 +11,7 @@ use lib.ListN.{getD, set, replicate}
 use Rattle.laws.specs.Below.{allBelow, anyBelow, sumBelow, pickBelow}
 use Rattle.laws.specs.Choice.{_if_else_}
 use Rattle.laws.specs.Signed.{signed}
-use Rattle.laws.specs.Lists.{padded}
+use Rattle.laws.specs.Lists.{padded, zeroFrom}
 use Rattle.laws.specs.Table.{table}
 use Rattle.netlist.specs.Image.{nodes, channels, kind, parameter, wire, from, to, port, feeds, depths, stations, depth, inputs}
 use Rattle.netlist.specs.Judge.{judge, badKind, badWire, badPort, fedTwice, notFed, badStations, badDepth}
@@ -33,7 +33,7 @@ use Rattle.state.specs.State.{nodeAt, firingsAt, markAt, stationAt, queueAt, ch
 use Rattle.state.specs.Fresh.{freshState}
 use Rattle.cycle.specs.Cycle.{stalled, inputAt, blockedAt, seenAt, allReady, anyBlocked, fires, nodeAfter, channelNext}
 use Rattle.cycle.specs.Cycle.{stateAfter, after, lettersOf, valuesOf}
-use Rattle.state.specs.Fits.{zeroFrom, cyclesFit, firingsFit, marksFit, stationsFit, countsFit, nodeClear, markClear, stationClear, queueClear}
+use Rattle.state.specs.Fits.{cyclesFit, firingsFit, marksFit, stationsFit, countsFit, nodeClear, markClear, stationClear, queueClear}
 use Rattle.state.specs.Fits.{unusedClear, balanced, fits}
 use Rattle.engine.specs.Answer.{setsAbove, stepNumber, stepOf, stepAnswer, lettersWritten, valuesWritten, stepMore, ranFrom, runAnswer}
 use Rattle.engine.specs.AnswerLaws.{step-none, step-made}

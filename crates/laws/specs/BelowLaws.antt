@@ -1,5 +1,5 @@
 -- Laws of what is said of all numbers below n. Assumes nothing.
-use mathlib.Core.Path.{_≡_, refl, sym, _∙_}
+use mathlib.Core.Path.{_≡_, refl, sym, ap, _∙_}
 use mathlib.Core.Logic.{_↔_, ⊎-elim}
 use mathlib.Core.Bool.{Bool, true, false, not, or-true, or-false, Bool·not-not, false≢true}
 use Prim.Native.Nat.{ℕ, zero, suc, _<_, _≤_}
@@ -61,6 +61,10 @@ pub any-same : (f g : ℕ → Bool) (n : ℕ) → ((k : ℕ) → k < n → f k �
 unfolding anyBelow
 any-same f g zero h = refl
 any-same f g (suc n) h = rw (any-same f g n (λ k l. h k (omega arith)), h n (omega arith))
+
+pub all-same : (f g : ℕ → Bool) (n : ℕ) → ((k : ℕ) → k < n → f k ≡ g k) → allBelow f n ≡ allBelow g n
+all-same f g n h =
+    all-any f n ∙ ap not (any-same (λ k. not (f k)) (λ k. not (g k)) n (λ k l. ap not (h k l))) ∙ sym (all-any g n)
 
 -- a test that fails at each number where P holds, and only there, fails at all below n exactly if P holds at all of them
 pub none-iff : {P : ℕ → Type 0} (f : ℕ → Bool) (n : ℕ) → ((k : ℕ) → (f k ≡ false) ↔ P k) → (anyBelow f n ≡ false) ↔ ((k : ℕ) → k < n → P k)

@@ -1,10 +1,14 @@
 -- Lists that are filled at the end and emptied at the front, and arrays that hold such a list.
-use mathlib.Core.Bool.{Bool, true, false}
+use mathlib.Core.Bool.{Bool, true, false, _||_}
 use mathlib.Core.List.{List, [], _∷_, _++_}
 use mathlib.Core.Path.{_≡_}
 use Prim.Native.Nat.{ℕ, _-_, _≤_}
+use lib.Dec.{ltb}
+use lib.IntN.{ℤ, pos}
 use lib.ListN.{length, getD, drop, replicate}
+use Rattle.laws.specs.Below.{allBelow}
 use Rattle.laws.specs.Choice.{_if_else_}
+use Rattle.laws.specs.Signed.{isZero}
 
 module _ {A : Type 0} where
   -- the list holds an element; it holds two
@@ -33,3 +37,7 @@ pub record Stored {A : Type 0} (n : ℕ) (d : A) (l : List A) (count : ℕ) : Ty
   pub few : count ≤ n
   pub long : length l ≡ n
   pub rest : (k : ℕ) → count ≤ k → getD l k d ≡ d
+
+-- the same as a test, of numbers: of an array of n places, those from `count` on are 0
+unfoldable pub zeroFrom : ℕ → ℕ → List ℤ → Bool
+zeroFrom n count l = allBelow (λ i. ltb i count || isZero (getD l i (pos 0))) n

@@ -5,7 +5,7 @@ ghost use Prim.Native.Nat.{_≤_, _<_, min};
 ghost use lib.ListN.{drop};
 ghost use Rattle.laws.specs.Lists.{holdsTwo};
 ghost use Rattle.relay.specs.Link.{token, linkOf, reading};
-ghost use Rattle.relay.specs.Station.{held, stationOf, placeAfter};
+ghost use Rattle.relay.specs.Station.{held, stationOf, clear, placeAfter};
 ghost use Rattle.relay.specs.Row.{stopped, linkAt};
 ghost use Rattle.relay.specs.RowCycle.{places, rowCycle, stationAfter};
 
@@ -137,6 +137,16 @@ impl Station {
         ensures { λ r. ⌜ r ≡ holdsTwo (held self) ⌝ }
     {
         Station::DEPTH <= self.count
+    }
+
+    // Whether every place that holds no token is 0.
+    pub fn clear(self) -> bool
+        ensures { λ r. ⌜ r ≡ clear self ⌝ }
+    {
+        let count = self.count;
+        let first = self.tokens[0];
+        let second = self.tokens[1];
+        ((0 < count) | (first == 0)) & ((1 < count) | (second == 0))
     }
 
     // It after a cycle, from the link that enters it and the stop on the one that leaves it. A count

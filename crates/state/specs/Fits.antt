@@ -3,17 +3,13 @@ use mathlib.Core.Bool.{Bool, _&&_, _||_}
 use mathlib.Core.List.{List}
 use Prim.Native.Nat.{ℕ, _+_}
 use lib.Dec.{eqb, leb, ltb}
-use lib.IntN.{ℤ, pos}
-use lib.ListN.{getD}
 use Rattle.laws.specs.Below.{allBelow, sumBelow}
+use Rattle.laws.specs.Lists.{zeroFrom}
 use Rattle.laws.specs.Signed.{isZero}
 use Rattle.netlist.specs.Image.{nodes, channels, from, to, stations, depth}
+use Rattle.relay.specs.Station.{clear}
 use Rattle.state.specs.declared.State.{State}
 use Rattle.state.specs.State.{valueAt, firingsAt, markAt, stationAt, queueAt}
-
--- of an array of n places, those from `count` on are 0
-unfoldable pub zeroFrom : ℕ → ℕ → List ℤ → Bool
-zeroFrom n count l = allBelow (λ i. ltb i count || isZero (getD l i (pos 0))) n
 
 module _ (img : List ℕ) (s : State) where
   -- "the cycle count is at most 1,000,000;"
@@ -45,8 +41,7 @@ module _ (img : List ℕ) (s : State) where
 
   unfoldable pub stationClear : ℕ → ℕ → Bool
   stationClear c j =
-      zeroFrom 2 (stationAt s c j .count) (stationAt s c j .tokens)
-      && ((ltb c (channels img) && ltb j (stations img c)) || eqb (stationAt s c j .count) 0)
+      clear (stationAt s c j) && ((ltb c (channels img) && ltb j (stations img c)) || eqb (stationAt s c j .count) 0)
 
   unfoldable pub queueClear : ℕ → Bool
   queueClear c = zeroFrom 8 (queueAt s c .count) (queueAt s c .tokens) && (ltb c (channels img) || eqb (queueAt s c .count) 0)

@@ -4,21 +4,23 @@ use mathlib.Core.List.{List}
 use Prim.Native.Nat.{ℕ}
 use lib.Dec.{eqb, leb, ltb}
 use Rattle.laws.specs.Below.{allBelow}
+use Rattle.laws.specs.Lists.{zeroFrom}
 use Rattle.laws.specs.Signed.{isZero}
 use Rattle.netlist.specs.Image.{nodes, channels, depth}
 use Rattle.relay.specs.declared.Station.{Station}
+use Rattle.relay.specs.Station.{clear}
 use Rattle.shell.specs.declared.Queue.{Queue}
 use Rattle.state.specs.declared.Node.{Node}
 use Rattle.state.specs.declared.State.{State}
 use Rattle.state.specs.State.{nodeAt, markAt, queueAt}
-use Rattle.state.specs.Fits.{zeroFrom, stationsFit, markClear, stationClear, queueClear, balanced}
+use Rattle.state.specs.Fits.{stationsFit, markClear, stationClear, queueClear, balanced}
 
 -- a node, a station and a queue on their own: whether they are there, and 0 in every place that is not used
 unfoldable pub nodeFits : Node → Bool → ℕ → Bool
 nodeFits node there cycles = leb (node .firings) cycles && (there || (isZero (node .value) && eqb (node .firings) 0))
 
 unfoldable pub clearStation : Station → Bool → Bool
-clearStation station there = zeroFrom 2 (station .count) (station .tokens) && (there || eqb (station .count) 0)
+clearStation station there = clear station && (there || eqb (station .count) 0)
 
 unfoldable pub clearQueue : Queue → Bool → Bool
 clearQueue queue there = zeroFrom 8 (queue .count) (queue .tokens) && (there || eqb (queue .count) 0)

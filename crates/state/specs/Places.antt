@@ -9,13 +9,15 @@ use lib.IntN.{ℤ, pos}
 use lib.ListN.{getD}
 use Rattle.laws.specs.Below.{allBelow, sumBelow}
 use Rattle.laws.specs.BelowLaws.{all-iff}
+use Rattle.laws.specs.Lists.{zeroFrom}
 use Rattle.laws.specs.Signed.{isZero}
 use Rattle.laws.specs.SignedLaws.{zero-iff}
 use Rattle.laws.specs.TestsLaws.{lt-iff, ge-iff, le-iff, eq-iff, and-iff, or-iff, nand-iff}
 use Rattle.netlist.specs.Image.{nodes, channels, from, to, stations, depth}
+use Rattle.relay.specs.Station.{clear}
 use Rattle.state.specs.declared.State.{State}
 use Rattle.state.specs.State.{valueAt, firingsAt, markAt, stationAt, queueAt}
-use Rattle.state.specs.Fits.{zeroFrom, cyclesFit, firingsFit, marksFit, stationsFit, countsFit, unusedClear, balanced, fits}
+use Rattle.state.specs.Fits.{cyclesFit, firingsFit, marksFit, stationsFit, countsFit, unusedClear, balanced, fits}
 use Rattle.state.specs.Fits.{nodeClear, markClear, stationClear, queueClear}
 use Rattle.state.specs.FitsPasses.{channelClear}
 
@@ -94,7 +96,7 @@ module _ (img : List ℕ) (s : State) where
   station-says c j =
       let st = stationAt s c j in
       let there = ltb c (channels img) && ltb j (stations img c) in
-      and-iff (zeroFrom 2 (st .count) (st .tokens)) (there || eqb (st .count) 0) (zero-from 2 (st .count) (st .tokens))
+      and-iff (clear st) (there || eqb (st .count) 0) (zero-from 2 (st .count) (st .tokens))
       (or-iff there (eqb (st .count) 0)
       (nand-iff (ltb c (channels img)) (ltb j (stations img c)) (lt-iff c (channels img)) (ge-iff j (stations img c))) (eq-iff (st .count) 0))
 

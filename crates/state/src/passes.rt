@@ -21,10 +21,7 @@ fn node_fits(node: Node, there: bool, cycles: u32) -> bool
 fn clear_station(station: Station, there: bool) -> bool
     ensures { λ r. ⌜ r ≡ clearStation station there ⌝ }
 {
-    let count = station.count;
-    let first = station.tokens[0];
-    let second = station.tokens[1];
-    (((0 < count) | (first == 0)) & ((1 < count) | (second == 0))) & (there | (count == 0))
+    station.clear() & (there | (station.count == 0))
 }
 
 // The same of a queue.

@@ -7,7 +7,7 @@ use Prim.Native.String.{String}
 use lib.ListN.{length, set, take, replicate}
 use Rattle.laws.specs.Below.{allBelow, anyBelow, sumBelow, pickBelow}
 use Rattle.laws.specs.Signed.{signed}
-use Rattle.laws.specs.Lists.{padded}
+use Rattle.laws.specs.Lists.{padded, zeroFrom}
 use Rattle.laws.specs.Table.{table}
 use Rattle.netlist.specs.Image.{nodes, channels, kind, parameter, wire, from, to, port, feeds, depths, stations, depth, inputs}
 use Rattle.netlist.specs.Judge.{judge, badKind, badWire, badPort, fedTwice, notFed, badStations, badDepth}
@@ -23,7 +23,7 @@ use Rattle.shell.specs.Channel.{blocked, arriving, input, stopBelow, stopAbove,
 use Rattle.state.specs.State.{nodeAt, markAt, stationAt, queueAt, channelIn, stateOf}
 use Rattle.state.specs.declared.State.{State}
 use Rattle.state.specs.Fresh.{freshState, zeros}
-use Rattle.state.specs.Fits.{zeroFrom, cyclesFit, firingsFit, marksFit, stationsFit, countsFit, nodeClear, markClear, stationClear, queueClear}
+use Rattle.state.specs.Fits.{cyclesFit, firingsFit, marksFit, stationsFit, countsFit, nodeClear, markClear, stationClear, queueClear}
 use Rattle.state.specs.Fits.{unusedClear, balanced, fits}
 use Rattle.cycle.specs.Cycle.{stalled, inputAt, blockedAt, seenAt, allReady, anyBlocked, fires, nodeAfter, channelNext, stateAfter, after}
 use Rattle.engine.specs.Answer.{setsAbove, stepNumber}

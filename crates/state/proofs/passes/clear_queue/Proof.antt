@@ -6,8 +6,8 @@ use native.Mathlib.Omega.{arith}
 use lib.IntN.{pos}
 use lib.ListN.{getD}
 use Rattle.laws.specs.Below.{allBelow}
+use Rattle.laws.specs.Lists.{zeroFrom}
 use Rattle.laws.specs.SignedLaws.{told, zero-bits}
-use Rattle.state.specs.Fits.{zeroFrom}
 use Rattle.state.specs.FitsPasses.{clearQueue}
 use Rattle.state.proofs.passes.clear_queue.Statement.{statement}
 use Rattle.state.proofs.passes.clear_queue.Tie as tie

@@ -1,0 +1,6 @@
+-- What the proofs by hand share.
+pub mod Walk
+pub mod Singles
+pub mod Accepted
+pub mod RowCalls
+pub mod Prefix
