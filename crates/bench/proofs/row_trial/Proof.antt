@@ -299,10 +299,19 @@ module _ {M : Type 1} (𝓤 : URA M) (H : Heap 𝓤) (A : Atoms 𝓤) (at-mem : 
         (walk W (a .0) (a .1 .0) (a .1 .1 .0) (a .1 .1 .1 .0) (a .1 .1 .1 .1 .0) (are .0) (are .1 .0 .1) (are .1 .1 .1 .0 .1) 𝓣 known-lent known))
 
     goes : AllGo 𝓤 H A W 0 (trial.signature .params) (trial.ended .kept) stayed
-    goes =
-        (goes-none 𝓤 H A W 0 (λ _. C.the-row) yes (λ κs x f. refl), (goes-none 𝓤 H A W 0 (λ _. usize) yes (λ κs x f. refl),
-        (goes-none 𝓤 H A W 0 (λ _. bool) yes (λ κs x f. refl), (goes-none 𝓤 H A W 0 (λ _. i32) yes (λ κs x f. refl),
-        (goes-none 𝓤 H A W 0 (λ _. bool) yes (λ κs x f. refl), tt)))))
+    goes = (
+      goes-none 𝓤 H A W 0 (λ _. C.the-row) yes (λ κs x f. refl),
+      (
+        goes-none 𝓤 H A W 0 (λ _. usize) yes (λ κs x f. refl),
+        (
+          goes-none 𝓤 H A W 0 (λ _. bool) yes (λ κs x f. refl),
+          (
+            goes-none 𝓤 H A W 0 (λ _. i32) yes (λ κs x f. refl),
+            (goes-none 𝓤 H A W 0 (λ _. bool) yes (λ κs x f. refl), tt),
+          ),
+        ),
+      ),
+    )
 
     meets : Meets 𝓤 H A trial.signature (WpFn 𝓤 H (𝓣 .C) (𝓣 .Λ) code.function) (trial.spec 𝓤 H A at-mem run)
     meets =
