@@ -1,7 +1,4 @@
 -- The declared types that the walks by hand meet, each as one machine value.
-use mathlib.Core.List.{List, _∷_, []}
-use package.mir.Val.{Val}
-use denote.Laws.{Is}
 use denote.Struct.Laws as LL
 use Rattle.bench.specs.declared.StationBenched.{StationBenched}
 use Rattle.bench.specs.declared.RowBenched.{RowBenched}

@@ -1,35 +1,59 @@
 -- Laws of the benches: each number from its cause, what the steps by value answer, and that a refusal changes nothing. Assumes nothing.
 use mathlib.Core.Bool.{Bool, true, false, not, _&&_, _||_, true≢false, or-true}
-use mathlib.Core.List.{List, [], _∷_, _++_, map}
+use mathlib.Core.List.{List, [], _∷_, map}
 use mathlib.Core.Logic.{⊎-elim}
-use mathlib.Core.Path.{_≡_, refl, sym, ap, _∙_}
-use Prim.Native.Nat.{ℕ, _<_, _≤_}
+use mathlib.Core.Path.{_≡_, refl, sym, ap}
+use Prim.Native.Nat.{ℕ, _≤_}
 use native.Mathlib.Omega.{arith}
 use borrow.Author.Tests.{ltb-false}
 use lib.Dec.{eqb, ltb}
-use lib.IntN.{ℤ, pos}
-use lib.ListN.{length, getD, take, drop, length-map, length-take, take-append-drop}
+use lib.IntN.{ℤ}
+use lib.ListN.{length, getD, take, length-map, length-take, take-append-drop}
 use lib.Seq.{getD-take}
 use Rattle.laws.specs.Below.{allBelow}
 use Rattle.laws.specs.BelowLaws.{all-same}
 use Rattle.laws.specs.Cases.{true-or-false, or-right}
 use Rattle.laws.specs.Choice.{_if_else_}
-use Rattle.laws.specs.Lists.{holds, holdsTwo, oneIf}
+use Rattle.laws.specs.Lists.{holdsTwo, oneIf}
 use Rattle.relay.specs.declared.Link.{Link}
 use Rattle.relay.specs.declared.Station.{Station}
 use Rattle.relay.specs.declared.Row.{Row}
 use Rattle.relay.specs.declared.RowCycle.{RowCycle}
-use Rattle.relay.specs.Link.{token, linkOf, passing, reading}
+use Rattle.relay.specs.Link.{token, linkOf}
 use Rattle.relay.specs.LinkLaws.{linkOf-take, passing-holds}
 use Rattle.relay.specs.Station.{held, stationOf, placeAfter}
 use Rattle.relay.specs.Row.{stopped, leaving, rowAfter}
 use Rattle.relay.specs.RowLaws.{length-after}
 use Rattle.relay.specs.RowCycle.{places, rowCycle, noStation}
 use Rattle.bench.specs.declared.Answer.{Answer}
-use Rattle.bench.specs.declared.StationBenched.{StationBenched}
-use Rattle.bench.specs.declared.RowBenched.{RowBenched}
 use Rattle.bench.specs.Bench.{fits, benchNumber, refusal, reply, benchAnswer, benchAfter, BenchDone}
 use Rattle.bench.specs.ByValue.{stationBenched, rowBenched}
+
+-- ---- any row
+-- one that is too long is refused, whatever it holds
+pub bench-long :
+    (row : List Station) (valid : Bool) (value : ℤ) (stop : Bool) → ltb 8 (length row) ≡ true → BenchDone row valid value stop (refusal 15) row
+unfolding benchNumber benchAnswer benchAfter
+bench-long row valid value stop h = record { answered = rw (h, or-true); left = rw (h, or-true) }
+
+module _ (row : List Station) (valid : Bool) (value : ℤ) (stop : Bool) where
+  -- it has as many records as before
+  pub length-bench : length (benchAfter row valid value stop) ≡ length row
+  unfolding benchAfter
+  length-bench = kept (eqb (benchNumber row) 0)
+    where
+      kept : (t : Bool) → length (map stationOf (rowAfter (oneIf valid value) (map held row) stop) if t else row) ≡ length row
+      kept true = rw (length-map, length-after, length-map)
+      kept false = refl
+
+  -- and is the row itself if the bench is refused
+  pub bench-stays : eqb (benchAnswer row valid value stop .number) 0 ≡ false → row ≡ benchAfter row valid value stop
+  unfolding benchAnswer benchAfter reply
+  bench-stays e =
+      ⊎-elim
+      (λ (t : eqb (benchNumber row) 0 ≡ true). absurd (true≢false (rw t at e)))
+      (λ (t : eqb (benchNumber row) 0 ≡ false). rw t)
+      (true-or-false (eqb (benchNumber row) 0))
 
 -- ---- one station
 module _ (s : Station) (valid : Bool) (value : ℤ) (stop : Bool) where
@@ -51,7 +75,32 @@ module _ (s : Station) (valid : Bool) (value : ℤ) (stop : Bool) where
   unfolding stationBenched benchAnswer benchAfter token leaving stopped rowAfter
   station-worked e link l =
       let n : benchNumber (s ∷ []) ≡ 0 = rw e at one in
-      rw (n, l, linkOf-take, passing-holds (record { valid = valid; value = value }) (holdsTwo (held s)))
+      let taken = passing-holds (record { valid = valid; value = value }) (holdsTwo (held s)) in
+      rw (n, l, linkOf-take)
+      (ap (λ (t : Bool). record { station = stationOf (placeAfter (oneIf valid value) (held s) stop); answer = reply (linkOf (held s)) stop t })
+      (sym taken))
+
+  -- what it makes of the station is what the row bench makes of the row of it alone,
+  pub station-done : let b = stationBenched s valid value stop in BenchDone (s ∷ []) valid value stop (b .answer) (b .station ∷ [])
+  unfolding stationBenched
+  station-done = record { answered = refl; left = single (benchAfter (s ∷ []) valid value stop) (length-bench (s ∷ []) valid value stop) }
+    where
+      single : (l : List Station) → length l ≡ 1 → getD l 0 noStation ∷ [] ≡ l
+      single [] e = absurd (omega arith)
+      single (x ∷ []) e = refl
+      single (x ∷ y ∷ l) e = absurd (omega arith)
+
+  -- and the other way round
+  pub done-station :
+      (answer : Answer) (after : Station) → BenchDone (s ∷ []) valid value stop answer (after ∷ [])
+      → let b = stationBenched s valid value stop in (answer ≡ b .answer) × (after ≡ b .station)
+  unfolding stationBenched
+  done-station answer after d = (d .answered, ap (λ l. getD l 0 noStation) (d .left))
+
+  -- a station that is refused stays
+  pub station-stays : let b = stationBenched s valid value stop in eqb (b .answer .number) 0 ≡ false → s ≡ b .station
+  unfolding stationBenched
+  station-stays e = ap (λ l. getD l 0 noStation) (bench-stays (s ∷ []) valid value stop e)
 
 -- ---- a row by value: the first n of its records
 module _ (row : Row) (long : length (row .stations) ≡ 8) (n : ℕ) (valid : Bool) (value : ℤ) (stop : Bool) where
@@ -103,56 +152,3 @@ module _ (row : Row) (long : length (row .stations) ≡ 8) (n : ℕ) (valid : Bo
     row-worked e link l cycle c =
         let k : benchNumber first ≡ 0 = rw (some, e) at (first-number (ltb-false 8 n short)) in
         rw (c, l, short, k)
-
--- ---- any row
--- one that is too long is refused, whatever it holds
-pub bench-long :
-    (row : List Station) (valid : Bool) (value : ℤ) (stop : Bool) → ltb 8 (length row) ≡ true → BenchDone row valid value stop (refusal 15) row
-unfolding benchNumber benchAnswer benchAfter
-bench-long row valid value stop h = record { answered = rw (h, or-true); left = rw (h, or-true) }
-
-module _ (row : List Station) (valid : Bool) (value : ℤ) (stop : Bool) where
-  -- it has as many records as before
-  pub length-bench : length (benchAfter row valid value stop) ≡ length row
-  unfolding benchAfter
-  length-bench = kept (eqb (benchNumber row) 0)
-    where
-      kept : (t : Bool) → length (map stationOf (rowAfter (oneIf valid value) (map held row) stop) if t else row) ≡ length row
-      kept true = rw (length-map, length-after, length-map)
-      kept false = refl
-
-  -- and is the row itself if the bench is refused
-  pub bench-stays : eqb (benchAnswer row valid value stop .number) 0 ≡ false → row ≡ benchAfter row valid value stop
-  unfolding benchAnswer benchAfter reply
-  bench-stays e =
-      ⊎-elim
-      (λ (t : eqb (benchNumber row) 0 ≡ true). absurd (true≢false (rw t at e)))
-      (λ (t : eqb (benchNumber row) 0 ≡ false). rw t)
-      (true-or-false (eqb (benchNumber row) 0))
-
-pub station-done :
-    (s : Station) (valid : Bool) (value : ℤ) (stop : Bool)
-    → let b = stationBenched s valid value stop in BenchDone (s ∷ []) valid value stop (b .answer) (b .station ∷ [])
-unfolding stationBenched
-station-done s valid value stop =
-    record { answered = refl; left = single (benchAfter (s ∷ []) valid value stop) (length-bench (s ∷ []) valid value stop) }
-  where
-    single : (l : List Station) → length l ≡ 1 → getD l 0 noStation ∷ [] ≡ l
-    single [] e = absurd (omega arith)
-    single (x ∷ []) e = refl
-    single (x ∷ y ∷ l) e = absurd (omega arith)
-
--- a station that is refused stays
-pub station-stays :
-    (s : Station) (valid : Bool) (value : ℤ) (stop : Bool)
-    → let b = stationBenched s valid value stop in eqb (b .answer .number) 0 ≡ false → s ≡ b .station
-unfolding stationBenched
-station-stays s valid value stop e = ap (λ l. getD l 0 noStation) (bench-stays (s ∷ []) valid value stop e)
-
--- what a station bench has done decides what it left
-pub done-station :
-    (s : Station) (valid : Bool) (value : ℤ) (stop : Bool) (answer : Answer) (after : Station)
-    → BenchDone (s ∷ []) valid value stop answer (after ∷ [])
-    → let b = stationBenched s valid value stop in (answer ≡ b .answer) × (after ≡ b .station)
-unfolding stationBenched
-done-station s valid value stop answer after d = (d .answered, ap (λ l. getD l 0 noStation) (d .left))

@@ -1,17 +1,16 @@
 -- Laws of a row that is copied out and stored back: one turn of each loop, and what both leave together. Assumes nothing.
 use mathlib.Core.Bool.{Bool, true, false}
-use mathlib.Core.List.{List, [], _∷_, _++_, append-nil}
+use mathlib.Core.List.{List, _++_, append-nil}
 use mathlib.Core.Logic.{⊎-elim}
 use mathlib.Core.Path.{_≡_, refl, sym, ap, _∙_}
 use Prim.Native.Nat.{ℕ, suc, _<_, _≤_}
 use native.Mathlib.Omega.{arith}
-use borrow.Author.Tests.{ltb-true, ltb-false}
+use borrow.Author.Tests.{ltb-false}
 use lib.Dec.{eqb, ltb}
 use lib.IntN.{ℤ}
-use lib.ListN.{length, getD, set, take, drop, List·getD-append}
+use lib.ListN.{length, set, take, drop, List·getD-append}
 use lib.Seq.{take-append-seam, drop-length}
 use Rattle.laws.specs.Cases.{true-or-false}
-use Rattle.laws.specs.Choice.{_if_else_}
 use Rattle.laws.specs.Table.{table, tableOver}
 use Rattle.laws.specs.TableLaws.{table-own, table-same, over-set, length-over}
 use Rattle.relay.specs.declared.Station.{Station}
@@ -19,7 +18,7 @@ use Rattle.relay.specs.declared.Row.{Row}
 use Rattle.relay.specs.RowCycle.{noStation}
 use Rattle.bench.specs.declared.Answer.{Answer}
 use Rattle.bench.specs.declared.RowBenched.{RowBenched}
-use Rattle.bench.specs.Bench.{benchNumber, benchAnswer, benchAfter}
+use Rattle.bench.specs.Bench.{benchAnswer, benchAfter}
 use Rattle.bench.specs.BenchLaws.{bench-long, length-bench, bench-stays}
 use Rattle.bench.specs.ByValue.{rowBenched}
 use Rattle.bench.specs.Copy.{walked, recordAt, emptyRow, copied, stored}
@@ -97,7 +96,10 @@ module _ (records : List Station) (valid : Bool) (value : ℤ) (stop : Bool) whe
       let e : take n st ≡ records = ap (take n) (copied-all records) ∙ take-append-seam records (drop n (emptyRow .stations)) in
       rw h (
         ap (λ (l : List Station). benchAnswer l valid value stop) e,
-        stored-all records (benchAfter records valid value stop) (drop n st) (record { stations = benchAfter (take n st) valid value stop ++ drop n st })
+        stored-all records (benchAfter records valid value stop) (drop n st) (record {
+          stations = benchAfter (take n st) valid value stop ++ drop n
+              st;
+        })
             (length-bench records valid value stop) (ap (λ (l : List Station). benchAfter l valid value stop ++ drop n st) e),
       )
 

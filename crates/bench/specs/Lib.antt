@@ -2,6 +2,7 @@
 pub mod Bench
 pub mod ByValue
 pub mod BenchLaws
+pub mod Kept
 pub mod Copy
 pub mod CopyLaws
 pub mod Examples

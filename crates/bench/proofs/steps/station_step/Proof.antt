@@ -1,5 +1,5 @@
 -- `bench::steps::station_step` meets its contract. Assumes nothing.
-use mathlib.Core.Path.{_≡_, sym, ap, _∙_}
+use mathlib.Core.Path.{sym, ap, _∙_}
 use borrow.Author.Needs.{needs}
 use borrow.Author.Tests.{not-true, not-false}
 use mir.Facts.{toZ-ofZ}
@@ -18,7 +18,8 @@ returns : tie.Need-returns
 returns c =
     let f = c .before .before .fits2 in
     let a = c .before .before .before .args in
-    rw (c .refusal .ensures) (station-refused (a .station) (a .valid) (a .value) (a .stop) (sym (f .ensures) ∙ not-true (f .result) (c .before .if1 .taken)))
+    rw (c .refusal .ensures) (station-refused (a .station) (a .valid) (a .value) (a .stop) (sym (f .ensures) ∙ not-true (f .result) (c .before .if1
+    .taken)))
 
 full-requires : tie.Need-full-requires
 full-requires c κs = search needs
