@@ -9,7 +9,7 @@ use Rattle.laws.specs.Below.{allBelow, anyBelow, sumBelow, mostBelow, pi
 use Rattle.laws.specs.Choice.{_if_else_}
 use Rattle.laws.specs.Range.{outside}
 use Rattle.laws.specs.Signed.{signed}
-use Rattle.laws.specs.Lists.{holds, holdsTwo, oneIf, dropIf, padded}
+use Rattle.laws.specs.Lists.{holds, holdsTwo, oneIf, dropIf, padded, zeroFrom}
 use Rattle.laws.specs.Table.{table, tableOver}
 use Rattle.laws.specs.Stretch.{Stretch}
 
@@ -51,3 +51,9 @@ tokens = (refl, refl, refl, refl, refl, refl, refl, refl, refl, refl)
 ends : (signed 0 ≡ pos 0) × (signed (2 ^ 31 - 1) ≡ pos 2147483647) × (signed (2 ^ 31) ≡ negsuc 2147483647) × (signed (2 ^ 32 - 1) ≡ negsuc 0)
 unfolding signed
 ends = (refl, refl, refl, refl)
+
+-- what the first `count` places hold is not looked at
+zeros : (zeroFrom 3 1 (pos 5 ∷ pos 0 ∷ pos 0 ∷ []) ≡ true) × (zeroFrom 3 1 (pos 5 ∷ pos 0 ∷ negsuc 6 ∷ []) ≡ false) ×
+    (zeroFrom 2 0 (pos 5 ∷ pos 0 ∷ []) ≡ false) × (zeroFrom 2 9 (pos 5 ∷ pos 6 ∷ []) ≡ true)
+unfolding zeroFrom allBelow
+zeros = (refl, refl, refl, refl)

@@ -6,12 +6,13 @@ use Prim.Native.Nat.{ℕ, pred}
 use lib.Dec.{eqb, ltb}
 use lib.IntN.{ℤ, pos, negsuc}
 use lib.ListN.{replicate}
-use Rattle.laws.specs.Lists.{oneIf, padded}
+use Rattle.laws.specs.Below.{allBelow}
+use Rattle.laws.specs.Lists.{oneIf, padded, zeroFrom}
 use Rattle.relay.specs.declared.Link.{Link}
 use Rattle.relay.specs.declared.Reading.{Reading}
 use Rattle.relay.specs.declared.Row.{Row}
 use Rattle.relay.specs.Link.{token, linkOf, letter, reading}
-use Rattle.relay.specs.Station.{held, stationOf, placeAfter}
+use Rattle.relay.specs.Station.{held, stationOf, clear, placeAfter}
 use Rattle.relay.specs.Row.{stopped, leaving, rowAfter}
 use Rattle.relay.specs.RowCycle.{places, rowCycle}
 
@@ -92,6 +93,13 @@ unfit :
     (stationOf (placeAfter [] (held (record { tokens = pos 4 ∷ pos 5 ∷ []; count = 0 })) true) ≡ record { tokens = pos 0 ∷ pos 0 ∷ []; count = 0 })
 unfolding held stationOf placeAfter padded
 unfit = (refl, refl, refl)
+
+-- a record is clear if every place that holds no token is 0, whatever its count
+clears :
+    (clear (record { tokens = pos 4 ∷ pos 0 ∷ []; count = 1 }) ≡ true) × (clear (record { tokens = pos 4 ∷ pos 5 ∷ []; count = 1 }) ≡ false) ×
+    (clear (record { tokens = pos 4 ∷ pos 0 ∷ []; count = 0 }) ≡ false) × (clear (record { tokens = pos 4 ∷ pos 5 ∷ []; count = 9 }) ≡ true)
+unfolding zeroFrom allBelow
+clears = (refl, refl, refl, refl)
 
 -- eight stations with a token each. A row of none of them is its link; the cycle of one leaves the others; a length over eight is eight
 abbrev eight : Row
