@@ -4,4 +4,4 @@ pub mod Inputs
 pub mod Singles
 pub mod Accepted
 pub mod RowCalls
-pub mod Prefix
+pub mod Arrays

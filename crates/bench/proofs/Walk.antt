@@ -83,9 +83,11 @@ pub settled : {R : RattleType} (S : Single R) (r x : R .Denot) (u : Val) → Is 
 settled {R} S r x u is e = let t = S .tells r (u ∷ []) is in (ap only t ∙ ap (S .val) e, subst (Fits S) e (subst (Is R r) t is))
 
 -- ---- locals
+-- what a local holds: nothing yet, a value, or what is elsewhere in the context
 pub data Content : Type 0 where
   blank : Content
   has : Val → Content
+  apart : Content
 
 abbrev pub Slots : Type 0
 Slots = List (Ty × Content)
@@ -97,6 +99,14 @@ blanks (local τ h ∷ ls) = (τ, blank) ∷ blanks ls
 abbrev cell : Ty → Content → ℕ → Fml
 cell τ blank b = froom τ b 0
 cell τ (has v) b = fat fullShare τ b 0 v
+cell τ apart b = ftrue
+
+-- none is elsewhere
+abbrev pub Whole : Slots → Type 0
+Whole [] = Unit {0}
+Whole ((τ, blank) ∷ ss) = Whole ss
+Whole ((τ, has v) ∷ ss) = Whole ss
+Whole ((τ, apart) ∷ ss) = ⊥
 
 abbrev cons : ℕ → (ℕ → ℕ) → ℕ → ℕ
 cons b l zero = b
@@ -144,14 +154,16 @@ module _ {M : Type 1} {𝓤 : URA M} {H : Heap 𝓤} {A : Atoms 𝓤} {W : Given
       alloc-all ls (‵ (froom τ b 0) ∷ ‵ (fdies τ b) ∷ Γ) (λ l.
       before (locals l (blanks ls)) (‵ (froom τ b 0) ∷ ‵ (fdies τ b) ∷ []) Γ (k (cons b l))))
 
-  pub free-all : (Δ : List (Item 𝓤)) (l : ℕ → ℕ) (ss : Slots) {g : Goal 𝓤 H} → Sq W Δ g → Sq W (Δ ++ locals l ss) (frees (spots l ss) g)
-  free-all Δ l [] s =
+  pub free-all :
+      (Δ : List (Item 𝓤)) (l : ℕ → ℕ) (ss : Slots) → Whole ss → {g : Goal 𝓤 H} → Sq W Δ g → Sq W (Δ ++ locals l ss) (frees (spots l ss) g)
+  free-all Δ l [] w s =
       free0 ! $ record { prf = via 𝓤 (sep 𝓤 (⋆ 𝓤 H A Δ) (emp 𝓤)) (⊢++ 𝓤 H A Δ []) (via 𝓤 (⋆ 𝓤 H A Δ) (fst∗ 𝓤 (⋆ 𝓤 H A Δ) (emp 𝓤)) (s .prf)) }
-  free-all Δ l ((τ, blank) ∷ ss) s =
-      before Δ (‵ (froom τ (l 0) 0) ∷ ‵ (fdies τ (l 0)) ∷ []) (locals (λ k. l (suc k)) ss) (free1 ! $ free-all Δ (λ k. l (suc k)) ss s)
-  free-all Δ l ((τ, has v) ∷ ss) s =
+  free-all Δ l ((τ, blank) ∷ ss) w s =
+      before Δ (‵ (froom τ (l 0) 0) ∷ ‵ (fdies τ (l 0)) ∷ []) (locals (λ k. l (suc k)) ss) (free1 ! $ free-all Δ (λ k. l (suc k)) ss w s)
+  free-all Δ l ((τ, has v) ∷ ss) w s =
       before Δ (‵ (fat fullShare τ (l 0) 0 v) ∷ ‵ (fdies τ (l 0)) ∷ []) (locals (λ k. l (suc k)) ss)
-      (forget ! 0 refl $ free1 ! $ free-all Δ (λ k. l (suc k)) ss s)
+      (forget ! 0 refl $ free1 ! $ free-all Δ (λ k. l (suc k)) ss w s)
+  free-all Δ l ((τ, apart) ∷ ss) w s = absurd w
 
   -- an operand that is a local
   pub var :

@@ -1,4 +1,4 @@
--- A row that is lent is copied out, worked by value and stored back, record by record: what the copies hold after so many turns.
+-- A row that is lent is copied out, worked by value and stored back, record by record.
 use mathlib.Core.List.{List, []}
 use Prim.Native.Nat.{ℕ}
 use lib.Dec.{ltb}
@@ -14,18 +14,14 @@ use Rattle.relay.specs.RowCycle.{noStation}
 unfoldable pub walked : ℕ → ℕ
 walked n = 0 if ltb 8 n else n
 
--- what stands at place i of a list of records
-abbrev pub recordAt : List Station → ℕ → Station
-recordAt records i = getD records i noStation
-
 -- eight empty stations
 unfoldable pub emptyRow : Row
 emptyRow = record { stations = replicate 8 (stationOf []) }
 
--- the row by value, once i records are copied out
-unfoldable pub copied : List Station → ℕ → Row
-copied records i = record { stations = tableOver (recordAt records) i (emptyRow .stations) }
+-- what stands at place i of a list of records
+abbrev pub recordAt : List Station → ℕ → Station
+recordAt records i = getD records i noStation
 
--- the lent records, once j are stored back from a row by value
-unfoldable pub stored : List Station → Row → ℕ → List Station
-stored records row j = tableOver (recordAt (row .stations)) j records
+-- the records `to`, once the first i of `from` are copied over them
+unfoldable pub copied : List Station → ℕ → List Station → List Station
+copied from i to = tableOver (recordAt from) i to

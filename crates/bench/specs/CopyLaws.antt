@@ -14,14 +14,13 @@ use Rattle.laws.specs.Cases.{true-or-false}
 use Rattle.laws.specs.Table.{table, tableOver}
 use Rattle.laws.specs.TableLaws.{table-own, table-same, over-set, length-over}
 use Rattle.relay.specs.declared.Station.{Station}
-use Rattle.relay.specs.declared.Row.{Row}
 use Rattle.relay.specs.RowCycle.{noStation}
 use Rattle.bench.specs.declared.Answer.{Answer}
 use Rattle.bench.specs.declared.RowBenched.{RowBenched}
 use Rattle.bench.specs.Bench.{benchAnswer, benchAfter}
 use Rattle.bench.specs.BenchLaws.{bench-long, length-bench, bench-stays}
 use Rattle.bench.specs.ByValue.{rowBenched}
-use Rattle.bench.specs.Copy.{walked, recordAt, emptyRow, copied, stored}
+use Rattle.bench.specs.Copy.{walked, emptyRow, recordAt, copied}
 
 -- no more are copied than there are, and no more than eight
 pub walked-few : (n : ℕ) → (walked n ≤ n) × (walked n ≤ 8)
@@ -32,75 +31,66 @@ walked-few n =
     (λ (h : ltb 8 n ≡ false). rw h (omega arith, ltb-false 8 n h))
     (true-or-false (ltb 8 n))
 
+pub length-empty : length (emptyRow .stations) ≡ 8
+unfolding emptyRow
+length-empty = refl
+
 -- ---- the loops
-module _ (records : List Station) where
-  pub copied-none : emptyRow ≡ copied records 0
+module _ (from to : List Station) where
+  pub copied-none : copied from 0 to ≡ to
   unfolding copied tableOver table
   copied-none = refl
 
-  pub copied-next : (i : ℕ) → i < 8 → record { stations = set (copied records i .stations) i (recordAt records i) } ≡ copied records (suc i)
-  unfolding copied emptyRow
-  copied-next i h = ap (λ (l : List Station). record { stations = l }) (over-set (recordAt records) i (emptyRow .stations) h)
+  pub copied-next : (i : ℕ) → i < length to → set (copied from i to) i (recordAt from i) ≡ copied from (suc i) to
+  unfolding copied
+  copied-next i h = over-set (recordAt from) i to h
 
-  module _ (row : Row) where
-    pub stored-none : stored records row 0 ≡ records
-    unfolding stored tableOver table
-    stored-none = refl
-
-    pub stored-next : (j : ℕ) → j < length records → set (stored records row j) j (recordAt (row .stations) j) ≡ stored records row (suc j)
-    unfolding stored
-    stored-next j h = over-set (recordAt (row .stations)) j records h
-
-    pub length-stored : (j : ℕ) → j ≤ length records → length (stored records row j) ≡ length records
-    unfolding stored
-    length-stored j h = length-over (recordAt (row .stations)) j records h
+  pub length-copied : (i : ℕ) → i ≤ length to → length (copied from i to) ≡ length to
+  unfolding copied
+  length-copied i h = length-over (recordAt from) i to h
 
 -- ---- all of it
--- a row that begins with the records
-copied-all : (records : List Station) → copied records (length records) .stations ≡ records ++ drop (length records) (emptyRow .stations)
+-- all records of one list over the front of another
+copied-all : (from to : List Station) → copied from (length from) to ≡ from ++ drop (length from) to
 unfolding copied tableOver
-copied-all records = ap (λ (l : List Station). l ++ drop (length records) (emptyRow .stations)) (sym (table-own records noStation))
+copied-all from to = ap (λ (l : List Station). l ++ drop (length from) to) (sym (table-own from noStation))
 
--- and one whose first records come back
-stored-all :
-    (records after rest : List Station) (row : Row) → length after ≡ length records → row .stations ≡ after ++ rest
-    → stored records row (length records) ≡ after
-unfolding stored tableOver
-stored-all records after rest row long e =
-    let same : table (recordAt (row .stations)) (length records) ≡ table (recordAt after) (length after) =
-    table-same (recordAt (row .stations)) (recordAt after) (length records) (λ i h.
-    ap (λ (l : List Station). recordAt l i) e ∙ List·getD-append after rest noStation i (omega arith))
-    ∙ ap (table (recordAt after)) (sym long) in
-    rw (same, drop-length, append-nil) (sym (table-own after noStation))
+-- the first records of a list over as many others
+copied-front : (front rest to : List Station) → length front ≡ length to → copied (front ++ rest) (length to) to ≡ front
+unfolding copied tableOver
+copied-front front rest to long =
+    let same : table (recordAt (front ++ rest)) (length to) ≡ table (recordAt front) (length front) =
+    table-same (recordAt (front ++ rest)) (recordAt front) (length to) (λ i h. List·getD-append front rest noStation i (omega arith))
+    ∙ ap (table (recordAt front)) (sym long) in
+    rw (same, drop-length, append-nil) (sym (table-own front noStation))
 
 module _ (records : List Station) (valid : Bool) (value : ℤ) (stop : Bool) where
   -- the row by value after the bench
   abbrev made : ℕ → RowBenched
-  made m = rowBenched (copied records m) (length records) valid value stop
+  made m = rowBenched (record { stations = copied records m (emptyRow .stations) }) (length records) valid value stop
 
   abbrev Right : ℕ → Type 0
   Right m =
-      (made m .answer ≡ benchAnswer records valid value stop) × (stored records (made m .row) m ≡ benchAfter records valid value stop)
+      (made m .answer ≡ benchAnswer records valid value stop) × (copied (made m .row .stations) m records ≡ benchAfter records valid value stop)
 
   long-right : ltb 8 (length records) ≡ true → Right 0
   unfolding rowBenched
   long-right h =
       let d = bench-long records valid value stop h in
-      rw h (d .answered, stored-none records (copied records 0) ∙ d .left)
+      rw h (d .answered, copied-none (copied records 0 (emptyRow .stations)) records ∙ d .left)
 
   short-right : ltb 8 (length records) ≡ false → Right (length records)
   unfolding rowBenched
   short-right h =
       let n = length records in
-      let st = copied records n .stations in
-      let e : take n st ≡ records = ap (take n) (copied-all records) ∙ take-append-seam records (drop n (emptyRow .stations)) in
+      let st = copied records n (emptyRow .stations) in
+      let e : take n st ≡ records =
+      ap (take n) (copied-all records (emptyRow .stations)) ∙ take-append-seam records (drop n (emptyRow .stations)) in
+      let after = benchAfter records valid value stop in
       rw h (
         ap (λ (l : List Station). benchAnswer l valid value stop) e,
-        stored-all records (benchAfter records valid value stop) (drop n st) (record {
-          stations = benchAfter (take n st) valid value stop ++ drop n
-              st;
-        })
-            (length-bench records valid value stop) (ap (λ (l : List Station). benchAfter l valid value stop ++ drop n st) e),
+        ap (λ (l : List Station). copied (benchAfter l valid value stop ++ drop n st) n records) e
+            ∙ copied-front after (drop n st) records (length-bench records valid value stop),
       )
 
   -- what `row_bench` answers, and what it stores, is what the definition says of the records

@@ -68,18 +68,20 @@ pub fn row_bench(row: &mut [Station], valid: bool, value: i32, stop: bool) -> An
 {
     let n = row.len();
     let m = steps::walked(n);
-    let mut copy = steps::empty_row();
+    let empty = steps::empty_row();
+    let mut copy = empty.stations;
     let mut i = 0;
     while i < m {
-        copy = steps::put(copy, i, row[i]);
+        copy[i] = row[i];
         i += 1;
     }
-    let out = steps::row_step(copy, n, valid, value, stop);
+    let out = steps::row_step(Row { stations: copy }, n, valid, value, stop);
     let after = out.row;
+    let back = after.stations;
     if steps::accepted(out.answer) {
         let mut j = 0;
         while j < m {
-            row[j] = steps::at(after, j);
+            row[j] = back[j];
             j += 1;
         }
     }

@@ -7,9 +7,8 @@ use relay::Link;
 use relay::Row;
 use relay::Station;
 ghost use mathlib.Core.Path.{_≡_};
-ghost use Prim.Native.Nat.{_≤_, _<_, min};
+ghost use Prim.Native.Nat.{_≤_, min};
 ghost use lib.Dec.{eqb};
-ghost use lib.ListN.{set};
 ghost use Rattle.laws.specs.Below.{allBelow};
 ghost use Rattle.bench.specs.Bench.{fits, refusal, reply};
 ghost use Rattle.bench.specs.ByValue.{stationBenched, rowBenched};
@@ -126,24 +125,6 @@ pub(crate) fn empty_row() -> Row
     Row {
         stations: [station; 8],
     }
-}
-
-// The row with another station at place i.
-pub(crate) fn put(row: Row, i: usize, station: Station) -> Row
-    requires { ⌜ i < 8 ⌝ }
-    ensures { λ r. ⌜ r ≡ record { stations = set (row .stations) i station } ⌝ }
-{
-    let mut after = row;
-    after.stations[i] = station;
-    after
-}
-
-// The station at place i.
-pub(crate) fn at(row: Row, i: usize) -> Station
-    requires { ⌜ i < 8 ⌝ }
-    ensures { λ r. ⌜ r ≡ recordAt (row .stations) i ⌝ }
-{
-    row.stations[i]
 }
 
 // ---- records by value, of which the first are lent

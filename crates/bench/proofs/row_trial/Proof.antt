@@ -67,7 +67,7 @@ use Rattle.bench.proofs.RecordsBenched.Laws as P′
 use Rattle.bench.proofs.Walk.{Fits, i32-single, usize-single, settled, Content, blank, has, Slots, spots, locals, loc}
 use Rattle.bench.proofs.Walk.{ahead}
 use Rattle.bench.proofs.Walk.{alloc-all, free-all, var, hands, asks, returned}
-use Rattle.bench.proofs.Prefix.{array-low, IsArray, arrayTy, Others, prefix-out, prefix-back}
+use Rattle.bench.proofs.Arrays.{array-low, IsArray, arrayTy, Others, prefix-out, prefix-back}
 use Rattle.bench.proofs.Inputs.{Inputs, InputVals, Narrow, inputs, input-vals, input-list, input-slots, with-inputs}
 use Rattle.bench.proofs.Singles.{answer, records, records-benched}
 use Rattle.bench.proofs.steps.lent as lent-fn
@@ -244,7 +244,7 @@ module _ {M : Type 1} (𝓤 : URA M) (H : Heap 𝓤) (A : Atoms 𝓤) (at-mem : 
           (agg ! (and-then ! (var ! (loc 0 12) refl) (and-then ! (var ! (loc 0 8) refl) (no-more !))))
           (from ! (stop !)) (init ! (loc 0 0) refl (records-benched .lawful 𝓤 H A W .typed B _ isB .0)) $
           returns ! (look ! (loc 0 0) refl) $
-          free-all [] l (past (has (records-benched .val B)) (has (low zs)) (has (records .val (B .records)))) (by ! (exits isB))
+          free-all [] l (past (has (records-benched .val B)) (has (low zs)) (has (records .val (B .records)))) tt (by ! (exits isB))
 
       -- past the call of `lent`: the first records are lent, and come back
       lends :

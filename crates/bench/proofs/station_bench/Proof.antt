@@ -157,7 +157,7 @@ module _ {M : Type 1} (𝓤 : URA M) (H : Heap 𝓤) (A : Atoms 𝓤) (at-mem : 
           o $
           returns ! (look ! (loc 3 0) refl) $
           free-all (‵ (fobs γ (T.the-row .coded .code k)) ∷ ‵ (fbor κ (Body (mem T.the-row) b o γ)) ∷ ‵ (flft κ q) ∷ []) l
-          (full (has (answer .val (B .answer)))) (by ! (exits k e isA))
+          (full (has (answer .val (B .answer)))) tt (by ! (exits k e isA))
 
       -- the branch: the station is stored, or it stays
       stores : Fits station-benched B → Sq W (At h (full blank)) (runs (𝓣 .C) (𝓣 .Λ) E mir.t-4 (atRet E Post))

@@ -151,7 +151,7 @@ module _ {M : Type 1} (𝓤 : URA M) (H : Heap 𝓤) (A : Atoms 𝓤) (at-mem : 
           free-all [] l
           (slots (has (station-benched .val B)) (has (station .val (B .station))) (has (answer .val (B .answer))) (has (vptr (l 5) 0))
           (has (station .val (B .station))))
-          (by ! (exits is))
+          tt (by ! (exits is))
 
       -- the copy is lent, and comes back
       lends :

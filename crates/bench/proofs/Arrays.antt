@@ -1,7 +1,7 @@
--- The first elements of a local array of structs, to lend them as a slice: nothing here is about benches.
---     array-low, IsArray    the machine value of an array of a declared type D, and that it is one
---     prefix-out            a local's cell is its first k elements in memory, which can be lent, and the others, which are kept
---     prefix-back           the others and the k elements that came back, whatever they are now, are the local's cell
+-- A local array of structs: its elements one by one, or its first elements to be lent as a slice. Nothing here is about benches.
+--     array-low, IsArray            the machine value of an array of a declared type D, and that it is one
+--     elements-out, elements-back   a local's cell is its elements in memory, and back, whatever they are now
+--     prefix-out, prefix-back       the same for the first k elements, which can be lent, and the others, which are kept
 -- Assumes nothing; D is to own only facts.
 use mathlib.Core.Path.{_≡_, refl, sym, _∙_, ap, subst}
 use Prim.Native.Nat.{ℕ, _+_}
@@ -24,7 +24,7 @@ use denote.Laws.{Is, shows}
 use denote.Memory.{cellAt, lone, partAt, mem, shares, partOf}
 use denote.Array.{Array, arrayVal, array-tells, array-makes}
 use denote.ArrayMemory.{array-apart, array-whole}
-use denote.Index.{place}
+use denote.Index.{place, row, whole-out, whole-in}
 use denote.Steps.{owned, facts}
 use denote.Struct.Struct.{Struct, Plains, struct-makes}
 use denote.Struct.Declared.{Declared, fields, shape}
@@ -141,6 +141,14 @@ module _ {M : Type 1} (𝓤 : URA M) (H : Heap 𝓤) (A : Atoms 𝓤) (W : Given
         qed W (‵ (cells (mem R) xs b o) ∷ []) ∵ use1 W (‵ (parts (mem S) (shares S) fullShare (tuples xs) b o)) (each-out xs b o) $
         feqI ! ℕ (length (tuples xs)) n (length-map xs (D .to) ∙ e) $ fjoin ! $
         use1 W (‵ (whole xs b o)) (array-whole 𝓤 H A W S fullShare n (tuples xs) b o) $ by ! (spelt xs b o)
+
+    -- ---- one by one
+    pub elements-out : (xs : List (D .D)) (b o : ℕ) → IsArray D L n xs → ent 𝓤 (Cell xs b o) (sem 𝓤 H A (row R fullShare xs b o))
+    elements-out xs b o g = via 𝓤 (Records xs b o) (array-out xs b o g) (whole-out 𝓤 H A W R xs b o)
+
+    pub elements-back :
+        (xs : List (D .D)) (b o : ℕ) → length xs ≡ n → ent 𝓤 (sem 𝓤 H A (row R fullShare xs b o)) (guard 𝓤 (IsArray D L n xs) (Cell xs b o))
+    elements-back xs b o e = via 𝓤 (Records xs b o) (whole-in 𝓤 H A W R xs b o) (array-back xs b o e)
 
     -- ---- its first k records, and the others
     pub prefix-out :
