@@ -32,7 +32,8 @@ use contract.Running.{givenOf, tables, tablesOf}
 use types.Kit.{Given, Item, Sq, runs, anyQ, atRet, ‵, _⊛_, ⋆, _$_, _∵_, !, qed, by, move, keep, drop, split, join, rewrite, fsplit, fjoin, suffices}
 use types.Kit.{frame, done, given, use1, learn}
 use types.Run.{look, look-raw, init, store, store-raw, forget, stop, hop, fld, from, load, lit, of-opd, addr, bin, and-then, no-more, assigns}
-use types.Run.{assigns-last, land, first, blocks, branches, skips, stays, leaves-loop, exec, returns, enter, params1, pass1, pass0, Below, again, loops}
+use types.Run.{assigns-last, land, first, blocks, branches, skips, stays, leaves-loop, exec, returns, enter, params1, pass1, pass0}
+use types.Run.{Below, again, loops}
 use types.Part.{agg, whole, sub, look-in}
 use sound.WpLaws.{FmC, fmOf, WpFn-mono}
 use denote.RattleType.{owns}
