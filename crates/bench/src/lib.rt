@@ -25,9 +25,9 @@ pub struct StationBenched {
 }
 
 // A row after a bench, and its answer.
-pub struct RowBenched {
-    pub row: Row,
-    pub answer: Answer,
+struct RowBenched {
+    row: Row,
+    answer: Answer,
 }
 
 // Nine records, one more than a row may have.
@@ -62,7 +62,8 @@ pub fn station_bench(s: &mut Station, valid: bool, value: i32, stop: bool) -> An
 // records or over 8, then 21 as above: the row stays as it was.
 //
 // The row is copied out, worked by value, and stored back only if it was accepted. A row that is too
-// long is not copied: its number is 15 whatever it holds.
+// long is not copied: its number is 15 whatever it holds. Both loops stand here, since a function of
+// its own for either would hold the reference too.
 pub fn row_bench(row: &mut [Station], valid: bool, value: i32, stop: bool) -> Answer
     ensures { λ r. ⌜ BenchDone (now (row .entry)) valid value stop r (now (row .exit)) ⌝ }
 {
@@ -89,7 +90,7 @@ pub fn row_bench(row: &mut [Station], valid: bool, value: i32, stop: bool) -> An
 }
 
 // The station bench for a caller that has its station by value: a copy is lent. Whoever calls it holds
-// no reference to a struct.
+// no reference to a struct, and so needs no proof by hand.
 pub fn station_trial(station: Station, valid: bool, value: i32, stop: bool) -> StationBenched
     ensures { λ r. ⌜ r ≡ stationBenched station valid value stop ⌝ }
 {
@@ -101,8 +102,8 @@ pub fn station_trial(station: Station, valid: bool, value: i32, stop: bool) -> S
     }
 }
 
-// The row bench for a caller that has its records by value: a copy of the first `length` is lent, of
-// all nine if there are fewer.
+// The row bench for a caller that has its records by value: the first `length` of a copy are lent, all
+// nine if `length` is more, and the others stay as they were.
 pub fn row_trial(
     records: Records,
     length: usize,

@@ -1,4 +1,4 @@
-// The benches by value: what is worked on what was copied out of a reference.
+// The benches by value: what is done with records that were copied out of a reference.
 use crate::Answer;
 use crate::Records;
 use crate::RowBenched;
@@ -21,6 +21,7 @@ fn fits(station: Station) -> bool
     (station.count <= Station::DEPTH) & station.clear()
 }
 
+// What a bench that is refused answers.
 fn refusal(number: u8) -> Answer
     ensures { λ r. ⌜ r ≡ refusal number ⌝ }
 {
@@ -32,7 +33,7 @@ fn refusal(number: u8) -> Answer
     }
 }
 
-// What is answered of the link that leaves a row.
+// What one that is not refused answers, from the link that leaves the row.
 fn reply(link: Link, stop: bool, taken: bool) -> Answer
     ensures { λ r. ⌜ r ≡ reply link stop taken ⌝ }
 {
@@ -45,6 +46,7 @@ fn reply(link: Link, stop: bool, taken: bool) -> Answer
     }
 }
 
+// Whether it was not refused.
 pub(crate) fn accepted(answer: Answer) -> bool
     ensures { λ r. ⌜ r ≡ eqb (answer .number) 0 ⌝ }
 {
@@ -118,6 +120,7 @@ pub(crate) fn walked(n: usize) -> usize
     if (Row::LENGTH as usize) < n { 0 } else { n }
 }
 
+// Eight empty stations, to be copied over.
 pub(crate) fn empty_row() -> Row
     ensures { λ r. ⌜ r ≡ emptyRow ⌝ }
 {
