@@ -16,7 +16,7 @@ use denote.Triple.Statement.{Contract}
 use denote.Triple.Spec.{tripleOf}
 use denote.Triple.Clauses.{ensured, lasts}
 use Rattle.bench.specs.declared.Answer.{Answer}
-use Rattle.bench.proofs.Walk.{Fits, hands}
+use Rattle.bench.proofs.Walk.{Valued, hands}
 use Rattle.bench.proofs.Singles.{answer}
 use Rattle.bench.proofs.steps.accepted as accepted
 
@@ -28,7 +28,7 @@ module _ {M : Type 1} (𝓤 : URA M) (H : Heap 𝓤) (A : Atoms 𝓤) (at-mem : 
     abbrev pub to-accepted : Accepted .Ghost
     to-accepted = ((tt, tt, tt, (a, tt), (answer .val a ∷ [], tt)), tt)
 
-    pub goes-accepted : Given 𝓤 H A → Fits answer a → ent 𝓤 (emp 𝓤) (Accepted .pre to-accepted)
+    pub goes-accepted : Given 𝓤 H A → Valued answer a → ent 𝓤 (emp 𝓤) (Accepted .pre to-accepted)
     goes-accepted W is = qed W [] ∵ nothing ! $ hands answer a is $ nothing ! $ join ! $ frame ! $ done !
 
     pub accepted-says :

@@ -19,28 +19,28 @@ use denote.Triple.Clauses.{ensured, lasts}
 use Rattle.relay.specs.declared.Row.{Row}
 use Rattle.bench.specs.declared.RowBenched.{RowBenched}
 use Rattle.bench.specs.ByValue.{rowBenched}
-use Rattle.bench.specs.Copy.{walked, emptyRow}
-use Rattle.bench.proofs.Walk.{Fits, usize-single, hands}
+use Rattle.bench.specs.Copy.{copies, emptyRow}
+use Rattle.bench.proofs.Walk.{Valued, usize-single, hands}
 use Rattle.bench.proofs.Inputs.{Narrow, inputs, input-vals, with-inputs}
 use Rattle.bench.proofs.Singles.{row}
-use Rattle.bench.proofs.steps.walked as walked-fn
+use Rattle.bench.proofs.steps.copies as copies-fn
 use Rattle.bench.proofs.steps.empty_row as empty-fn
 use Rattle.bench.proofs.steps.row_step as step-fn
 
 module _ {M : Type 1} (𝓤 : URA M) (H : Heap 𝓤) (A : Atoms 𝓤) (at-mem : Memory → SProp 𝓤) (run : Routine → Fun 𝓤) where
-  -- ---- walked
-  abbrev pub Walked : Contract 𝓤
-  Walked = tripleOf 𝓤 H A walked-fn.signature (walked-fn.spec 𝓤 H A at-mem run)
+  -- ---- copies
+  abbrev pub Copies : Contract 𝓤
+  Copies = tripleOf 𝓤 H A copies-fn.signature (copies-fn.spec 𝓤 H A at-mem run)
 
   module _ (n : ℕ) where
-    abbrev pub to-walked : Walked .Ghost
-    to-walked = ((tt, tt, tt, (n, tt), (usize-single .val n ∷ [], tt)), tt)
+    abbrev pub to-copies : Copies .Ghost
+    to-copies = ((tt, tt, tt, (n, tt), (usize-single .val n ∷ [], tt)), tt)
 
-    pub goes-walked : Given 𝓤 H A → n < 2 ^ 64 → ent 𝓤 (emp 𝓤) (Walked .pre to-walked)
-    goes-walked W n-fits = qed W [] ∵ nothing ! $ hands usize-single n (refl, n-fits) $ nothing ! $ join ! $ frame ! $ done !
+    pub goes-copies : Given 𝓤 H A → n < 2 ^ 64 → ent 𝓤 (emp 𝓤) (Copies .pre to-copies)
+    goes-copies W n-fits = qed W [] ∵ nothing ! $ hands usize-single n (refl, n-fits) $ nothing ! $ join ! $ frame ! $ done !
 
-    pub walked-says : (r : ℕ) → ent 𝓤 (ensured 𝓤 H A walked-fn.ended (walked-fn.clauses 𝓤 H A at-mem run) tt (n, tt) tt r) (fact 𝓤 (r ≡ walked n))
-    walked-says r = exE 𝓤 _ (λ ws. snd∗ 𝓤 (sem 𝓤 H A (lasts walked-fn.ended tt (n, tt) ws)) (fact 𝓤 (r ≡ walked n)))
+    pub copies-says : (r : ℕ) → ent 𝓤 (ensured 𝓤 H A copies-fn.ended (copies-fn.clauses 𝓤 H A at-mem run) tt (n, tt) tt r) (fact 𝓤 (r ≡ copies n))
+    copies-says r = exE 𝓤 _ (λ ws. snd∗ 𝓤 (sem 𝓤 H A (lasts copies-fn.ended tt (n, tt) ws)) (fact 𝓤 (r ≡ copies n)))
 
   -- ---- empty_row
   abbrev pub EmptyRow : Contract 𝓤
@@ -63,7 +63,7 @@ module _ {M : Type 1} (𝓤 : URA M) (H : Heap 𝓤) (A : Atoms 𝓤) (at-mem : 
     abbrev pub to-step : RowStep .Ghost
     to-step = ((tt, tt, tt, (r, (n, inputs v z w)), (row .val r ∷ [], (usize-single .val n ∷ [], input-vals v z w))), tt)
 
-    pub goes-step : Given 𝓤 H A → Fits row r → n < 2 ^ 64 → Narrow z → ent 𝓤 (emp 𝓤) (RowStep .pre to-step)
+    pub goes-step : Given 𝓤 H A → Valued row r → n < 2 ^ 64 → Narrow z → ent 𝓤 (emp 𝓤) (RowStep .pre to-step)
     goes-step W is n-fits z-fits =
         qed W [] ∵ with-inputs v z w z-fits $
         hands usize-single n (refl, n-fits) $ hands row r is $ nothing ! $ join ! $ frame ! $ done !

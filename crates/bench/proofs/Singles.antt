@@ -16,7 +16,7 @@ use Rattle.bench.proofs.Records as Nine
 use Rattle.bench.proofs.Records.Laws as NineLaws
 use Rattle.bench.proofs.RecordsBenched as OfNine
 use Rattle.bench.proofs.RecordsBenched.Laws as OfNineLaws
-use Rattle.bench.proofs.Walk.{Single, Fits, struct-single}
+use Rattle.bench.proofs.Walk.{Single, Valued, struct-single}
 
 abbrev pub station : Single Station.the-row
 station = struct-single Station.the-type StationLaws.the-laws StationLaws.the-plain
@@ -40,14 +40,14 @@ abbrev pub records-benched : Single OfNine.the-row
 records-benched = struct-single OfNine.the-type OfNineLaws.the-laws OfNineLaws.the-plain
 
 -- the parts of what the steps by value return
-pub station-of : (r : StationBenched) → Fits station-benched r → Fits station (r .station)
+pub station-of : (r : StationBenched) → Valued station-benched r → Valued station (r .station)
 station-of r is = LL.owed OfStation.the-type OfStationLaws.the-laws r _ is .0
 
-pub station-answer : (r : StationBenched) → Fits station-benched r → Fits answer (r .answer)
+pub station-answer : (r : StationBenched) → Valued station-benched r → Valued answer (r .answer)
 station-answer r is = LL.owed OfStation.the-type OfStationLaws.the-laws r _ is .1 .0
 
-pub row-of : (r : RowBenched) → Fits row-benched r → Fits row (r .row)
+pub row-of : (r : RowBenched) → Valued row-benched r → Valued row (r .row)
 row-of r is = LL.owed OfRow.the-type OfRowLaws.the-laws r _ is .0
 
-pub row-answer : (r : RowBenched) → Fits row-benched r → Fits answer (r .answer)
+pub row-answer : (r : RowBenched) → Valued row-benched r → Valued answer (r .answer)
 row-answer r is = LL.owed OfRow.the-type OfRowLaws.the-laws r _ is .1 .0

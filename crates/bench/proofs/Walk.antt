@@ -74,13 +74,13 @@ struct-single D L plain = record {
   makes = λ 𝓤 H A W. LL.makes D plain 𝓤 H A;
 }
 
--- a value and its machine value
-abbrev pub Fits : {R : RattleType} → Single R → R .Denot → Type 0
-Fits {R} P x = Is R x (P .val x ∷ [])
+-- a value is related to its machine value
+abbrev pub Valued : {R : RattleType} → Single R → R .Denot → Type 0
+Valued {R} S x = Is R x (S .val x ∷ [])
 
 -- a value that was returned, and that its contract says to be x
-pub settled : {R : RattleType} (S : Single R) (r x : R .Denot) (u : Val) → Is R r (u ∷ []) → r ≡ x → (u ≡ S .val x) × Fits S x
-settled {R} S r x u is e = let t = S .tells r (u ∷ []) is in (ap only t ∙ ap (S .val) e, subst (Fits S) e (subst (Is R r) t is))
+pub settled : {R : RattleType} (S : Single R) (r x : R .Denot) (u : Val) → Is R r (u ∷ []) → r ≡ x → (u ≡ S .val x) × Valued S x
+settled {R} S r x u is e = let t = S .tells r (u ∷ []) is in (ap only t ∙ ap (S .val) e, subst (Valued S) e (subst (Is R r) t is))
 
 -- ---- locals
 -- what a local holds: nothing yet, a value, or what is elsewhere in the context
@@ -89,6 +89,7 @@ pub data Content : Type 0 where
   has : Val → Content
   apart : Content
 
+-- a function's locals in order: the type and the content of each
 abbrev pub Slots : Type 0
 Slots = List (Ty × Content)
 
@@ -108,14 +109,17 @@ Whole ((τ, blank) ∷ ss) = Whole ss
 Whole ((τ, has v) ∷ ss) = Whole ss
 Whole ((τ, apart) ∷ ss) = ⊥
 
+-- local k lies at l k; one more local before the others
 abbrev cons : ℕ → (ℕ → ℕ) → ℕ → ℕ
 cons b l zero = b
 cons b l (suc k) = l k
 
+-- where they lie, as the code finds them
 abbrev pub spots : (ℕ → ℕ) → Slots → List (Ty × ℕ)
 spots l [] = []
 spots l (s ∷ ss) = (s .0, l 0) ∷ spots (λ k. l (suc k)) ss
 
+-- what is had of them: for each its cell, and what lets it be freed
 abbrev pub locals : {M : Type 1} {𝓤 : URA M} → (ℕ → ℕ) → Slots → List (Item 𝓤)
 locals l [] = []
 locals l (s ∷ ss) = ‵ (cell (s .0) (s .1) (l 0)) ∷ ‵ (fdies (s .0) (l 0)) ∷ locals (λ k. l (suc k)) ss
@@ -145,6 +149,7 @@ module _ {M : Type 1} {𝓤 : URA M} {H : Heap 𝓤} {A : Atoms 𝓤} {W : Given
             (via 𝓤 (star (Θ ++ (Δ ++ Γ))) (++⊢ 𝓤 H A Θ (Δ ++ Γ)) (s .prf)))))));
       }
 
+  -- a function begins with its locals allocated,
   pub alloc-all :
       (ls : List Local) (Γ : List (Item 𝓤)) {Kt : List (Ty × ℕ) → Goal 𝓤 H}
       → ((l : ℕ → ℕ) → Sq W (locals l (blanks ls) ++ Γ) (Kt (spots l (blanks ls)))) → Sq W Γ (allocs ls Kt)
@@ -154,6 +159,7 @@ module _ {M : Type 1} {𝓤 : URA M} {H : Heap 𝓤} {A : Atoms 𝓤} {W : Given
       alloc-all ls (‵ (froom τ b 0) ∷ ‵ (fdies τ b) ∷ Γ) (λ l.
       before (locals l (blanks ls)) (‵ (froom τ b 0) ∷ ‵ (fdies τ b) ∷ []) Γ (k (cons b l))))
 
+  -- and ends with them freed, with Δ left over
   pub free-all :
       (Δ : List (Item 𝓤)) (l : ℕ → ℕ) (ss : Slots) → Whole ss → {g : Goal 𝓤 H} → Sq W Δ g → Sq W (Δ ++ locals l ss) (frees (spots l ss) g)
   free-all Δ l [] w s =
@@ -172,7 +178,7 @@ module _ {M : Type 1} {𝓤 : URA M} {H : Heap 𝓤} {A : Atoms 𝓤} {W : Given
   var t n e = load ! (from ! (stop !)) (look ! n e)
 
   -- what a callee is handed of a type that owns only facts
-  pub hands : {R : RattleType} {F : Fml} {Γ : List (Item 𝓤)} {G : Goal 𝓤 H} (S : Single R) (x : R .Denot) → Fits S x
+  pub hands : {R : RattleType} {F : Fml} {Γ : List (Item 𝓤)} {G : Goal 𝓤 H} (S : Single R) (x : R .Denot) → Valued S x
       → Step (Go {0}) W (‵ (fsep (R .own x (S .val x ∷ [])) F) ∷ Γ) G (‵ F ∷ Γ) G
   hands {R} S x is = step (λ s. owned ! R (Is R) (S .makes 𝓤 H A W) x _ is $ fjoin ! $ s)
 
@@ -188,7 +194,7 @@ module _ {M : Type 1} {𝓤 : URA M} {H : Heap 𝓤} {A : Atoms 𝓤} {W : Given
   pub returned :
       {C : Calls 𝓤 H} {Λ : Loops 𝓤 H} {E : Env 𝓤 H} {d : Place} {rest : Body} {q : Post 𝓤 H} {Γ : List (Item 𝓤)}
       {R : RattleType} (S : Single R) (x : R .Denot) {Q : R .Denot → SProp 𝓤} → ((r : R .Denot) → ent 𝓤 (Q r) (fact 𝓤 (r ≡ x))) → (u : Val)
-      → (Fits S x → Sq W Γ (lands C Λ E d (S .val x) rest q))
+      → (Valued S x → Sq W Γ (lands C Λ E d (S .val x) rest q))
       → Sq W (raw (H .⇛ (ex 𝓤 (λ (r : R .Denot). sep 𝓤 (sep 𝓤 (emp 𝓤) (sem 𝓤 H A (R .own r (u ∷ [])))) (Q r)))) ∷ Γ) (lands C Λ E d u rest q)
   returned {C} {Λ} {E} {d} {rest} {q} {Γ} {R} S x {Q} says u k =
       use1 W (later (some (λ (r : R .Denot). (‵ ftrue ⊛ ‵ (R .own r (u ∷ []))) ⊛ raw (Q r)))) (id⊢ 𝓤 _) $ await ! tt $ pick ! (λ r.

@@ -11,8 +11,8 @@ use Rattle.relay.specs.Station.{stationOf}
 use Rattle.relay.specs.RowCycle.{noStation}
 
 -- how many records of a row of n are copied: all if it is not too long, else none
-unfoldable pub walked : ℕ → ℕ
-walked n = 0 if ltb 8 n else n
+unfoldable pub copies : ℕ → ℕ
+copies n = 0 if ltb 8 n else n
 
 -- eight empty stations
 unfoldable pub emptyRow : Row

@@ -20,12 +20,12 @@ use Rattle.bench.specs.declared.RowBenched.{RowBenched}
 use Rattle.bench.specs.Bench.{benchAnswer, benchAfter}
 use Rattle.bench.specs.BenchLaws.{bench-long, length-bench, bench-stays}
 use Rattle.bench.specs.ByValue.{rowBenched}
-use Rattle.bench.specs.Copy.{walked, emptyRow, recordAt, copied}
+use Rattle.bench.specs.Copy.{copies, emptyRow, recordAt, copied}
 
 -- no more are copied than there are, and no more than eight
-pub walked-few : (n : ℕ) → (walked n ≤ n) × (walked n ≤ 8)
-unfolding walked
-walked-few n =
+pub copies-few : (n : ℕ) → (copies n ≤ n) × (copies n ≤ 8)
+unfolding copies
+copies-few n =
     ⊎-elim
     (λ (h : ltb 8 n ≡ true). rw h (omega arith, omega arith))
     (λ (h : ltb 8 n ≡ false). rw h (omega arith, ltb-false 8 n h))
@@ -94,8 +94,8 @@ module _ (records : List Station) (valid : Bool) (value : ℤ) (stop : Bool) whe
       )
 
   -- what `row_bench` answers, and what it stores, is what the definition says of the records
-  pub bench-copied : Right (walked (length records))
-  unfolding walked
+  pub bench-copied : Right (copies (length records))
+  unfolding copies
   bench-copied =
       ⊎-elim
       (λ (h : ltb 8 (length records) ≡ true). rw h (long-right h))
@@ -103,5 +103,5 @@ module _ (records : List Station) (valid : Bool) (value : ℤ) (stop : Bool) whe
       (true-or-false (ltb 8 (length records)))
 
   -- nothing is stored of a bench that is refused
-  pub copied-stays : eqb (made (walked (length records)) .answer .number) 0 ≡ false → records ≡ benchAfter records valid value stop
+  pub copied-stays : eqb (made (copies (length records)) .answer .number) 0 ≡ false → records ≡ benchAfter records valid value stop
   copied-stays e = bench-stays records valid value stop (ap (λ (a : Answer). eqb (a .number) 0) (sym (bench-copied .0)) ∙ e)

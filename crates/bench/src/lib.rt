@@ -68,7 +68,7 @@ pub fn row_bench(row: &mut [Station], valid: bool, value: i32, stop: bool) -> An
     ensures { λ r. ⌜ BenchDone (now (row .entry)) valid value stop r (now (row .exit)) ⌝ }
 {
     let n = row.len();
-    let m = steps::walked(n);
+    let m = steps::copies(n);
     let empty = steps::empty_row();
     let mut copy = empty.stations;
     let mut i = 0;

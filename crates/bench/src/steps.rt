@@ -12,7 +12,7 @@ ghost use lib.Dec.{eqb};
 ghost use Rattle.laws.specs.Below.{allBelow};
 ghost use Rattle.bench.specs.Bench.{fits, refusal, reply};
 ghost use Rattle.bench.specs.ByValue.{stationBenched, rowBenched};
-ghost use Rattle.bench.specs.Copy.{walked, recordAt, emptyRow};
+ghost use Rattle.bench.specs.Copy.{copies, recordAt, emptyRow};
 
 // Number 21 of a record: a count within the depth, and 0 in every place that holds no token.
 fn fits(station: Station) -> bool
@@ -114,8 +114,8 @@ pub(crate) fn row_step(row: Row, n: usize, valid: bool, value: i32, stop: bool) 
 // ---- a row that is lent: copied out, and stored back
 
 // How many records are copied: all of a row that is not too long, and none of one that is.
-pub(crate) fn walked(n: usize) -> usize
-    ensures { λ r. ⌜ r ≡ walked n ⌝ }
+pub(crate) fn copies(n: usize) -> usize
+    ensures { λ r. ⌜ r ≡ copies n ⌝ }
 {
     if (Row::LENGTH as usize) < n { 0 } else { n }
 }

@@ -55,8 +55,7 @@ use denote.Triple.Statement.{Triple}
 use denote.Triple.Entry.{onEntry}
 use denote.Triple.Spec.{Meets, tripleOf}
 use denote.Triple.Table.{entered, cited}
-use denote.Triple.Walked.{says, Stays, stay-slice, stay-none, walkOf, AllGo, goes-none, goes-slice, Walks, ends-at, walked, walk-meets}
-use denote.Exit.{yes}
+use denote.Triple.Walked.{says, Stays, stay-slice, walkOf, AllGo, goes-slice, Walks, ends-at, walked, walk-meets}
 use Rattle.relay.specs.declared.Station.{Station}
 use Rattle.relay.specs.declared.Row.{Row}
 use Rattle.relay.specs.RowCycle.{noStation}
@@ -67,22 +66,21 @@ use Rattle.relay.proofs.Row.Laws as R′
 use Rattle.bench.specs.declared.RowBenched.{RowBenched}
 use Rattle.bench.specs.Bench.{benchAfter}
 use Rattle.bench.specs.ByValue.{rowBenched}
-use Rattle.bench.specs.Copy.{emptyRow, recordAt, copied}
-use Rattle.bench.specs.Copy as copying
-use Rattle.bench.specs.CopyLaws.{walked-few, length-empty, copied-none, copied-next, length-copied, bench-copied, copied-stays}
+use Rattle.bench.specs.Copy.{copies, emptyRow, recordAt, copied}
+use Rattle.bench.specs.CopyLaws.{copies-few, length-empty, copied-none, copied-next, length-copied, bench-copied, copied-stays}
 use Rattle.bench.proofs.Answer as N
 use Rattle.bench.proofs.Answer.Laws as N′
 use Rattle.bench.proofs.RowBenched.Laws as P′
-use Rattle.bench.proofs.Walk.{Fits, bool-single, i32-single, usize-single, Content, blank, has, apart, Slots, spots, locals, loc, ahead}
+use Rattle.bench.proofs.Walk.{Valued, bool-single, i32-single, usize-single, Content, blank, has, apart, Slots, spots, locals, loc, ahead}
 use Rattle.bench.proofs.Walk.{alloc-all, free-all, var, asks, returned, failed}
 use Rattle.bench.proofs.Arrays.{array-low, IsArray, arrayTy, elements-out, elements-back}
-use Rattle.bench.proofs.Inputs.{Inputs, InputVals, Narrow, inputs, input-vals, input-list, input-slots, with-inputs}
+use Rattle.bench.proofs.Inputs.{Inputs, InputVals, Narrow, inputs, input-vals, input-list, input-slots, with-inputs, inputs-stay, inputs-go}
 use Rattle.bench.proofs.Singles.{station, row, answer, row-benched, row-of, row-answer}
 use Rattle.bench.proofs.Accepted.{Accepted, to-accepted, goes-accepted, accepted-says}
-use Rattle.bench.proofs.RowCalls.{Walked, to-walked, goes-walked, walked-says, EmptyRow, to-empty, goes-empty, empty-says}
+use Rattle.bench.proofs.RowCalls.{Copies, to-copies, goes-copies, copies-says, EmptyRow, to-empty, goes-empty, empty-says}
 use Rattle.bench.proofs.RowCalls.{RowStep, to-step, goes-step, step-says}
-use Rattle.bench.proofs.steps.walked.Symbol as walked-def
-use Rattle.bench.proofs.steps.walked.Met as walked-thm
+use Rattle.bench.proofs.steps.copies.Symbol as copies-def
+use Rattle.bench.proofs.steps.copies.Met as copies-thm
 use Rattle.bench.proofs.steps.empty_row.Symbol as empty-def
 use Rattle.bench.proofs.steps.empty_row.Met as empty-thm
 use Rattle.bench.proofs.steps.row_step.Symbol as step-def
@@ -96,7 +94,7 @@ use Rattle.bench.proofs.row_bench.Code as code
 use Rattle.bench.proofs.row_bench.Code.Mir as mir
 
 abbrev stayed : Stays (bench.ended .signature .params) (bench.ended .kept)
-stayed = (stay-slice (0 ∷ []) tt (plain (λ _. T.the-row)), (stay-none (λ _. bool) yes, (stay-none (λ _. i32) yes, (stay-none (λ _. bool) yes, tt))))
+stayed = (stay-slice (0 ∷ []) tt (plain (λ _. T.the-row)), inputs-stay 1)
 
 abbrev word : Ty
 word = tyInt w64
@@ -115,10 +113,10 @@ abbrev sliceT : Ty
 sliceT = sliceTy (tyRef (named 0) mut (pointee (T.the-row .written)))
 
 -- a row's array
-is-eight : (r : Row) → Fits row r → Eight (r .stations)
+is-eight : (r : Row) → Valued row r → Eight (r .stations)
 is-eight r is = LL.owed R.the-type R′.the-laws r _ is .0
 
-eight : (r : Row) → Fits row r → length (r .stations) ≡ 8
+eight : (r : Row) → Valued row r → length (r .stations) ≡ 8
 eight r is = sym (length-map (r .stations) _) ∙ is-eight r is .1 .0 .1
 
 -- ---- numbers
@@ -147,7 +145,7 @@ module _
     {M : Type 1} (𝓤 : URA M) (H : Heap 𝓤) (A : Atoms 𝓤) (at-mem : Memory → SProp 𝓤) (run : Routine → Fun 𝓤) where
   -- the functions that it calls meet their contracts
   pub record Known (𝓣 : Tables 𝓤 H) : Type 1 where
-    pub walks : Triple 𝓤 (𝓣 .C walked-def.name) (Walked 𝓤 H A at-mem run)
+    pub counts : Triple 𝓤 (𝓣 .C copies-def.name) (Copies 𝓤 H A at-mem run)
     pub empties : Triple 𝓤 (𝓣 .C empty-def.name) (EmptyRow 𝓤 H A at-mem run)
     pub steps : Triple 𝓤 (𝓣 .C step-def.name) (RowStep 𝓤 H A at-mem run)
     pub accepts : Triple 𝓤 (𝓣 .C accepted-def.name) (Accepted 𝓤 H A at-mem run)
@@ -159,7 +157,7 @@ module _
     n = length xs
 
     abbrev m : ℕ
-    m = copying.walked n
+    m = copies n
 
     -- what `row_step` makes of the copy, and whether it is accepted
     abbrev empties : List Station
@@ -191,7 +189,7 @@ module _
     abbrev Back : List Station → List (Item 𝓤)
     Back ys = ‵ (fobs γ (codedHoleys T.the-row .code (heres T.the-row ys))) ∷ ‵ (fbor κ (Held T.the-row (length ys) b o γ)) ∷ ‵ (flft κ q) ∷ []
 
-    exits : (ys : List Station) → length ys ≡ n → ys ≡ benchAfter xs v z w → Fits answer (Out .answer) → ent 𝓤 (⋆ 𝓤 H A (Back ys))
+    exits : (ys : List Station) → length ys ≡ n → ys ≡ benchAfter xs v z w → Valued answer (Out .answer) → ent 𝓤 (⋆ 𝓤 H A (Back ys))
         (Post (answer .val (Out .answer)))
     exits ys len e is =
         qed W (Back ys) ∵ suffices ! _
@@ -259,7 +257,7 @@ module _
 
       -- what follows the branch: the answer is copied, and the borrow is closed at the records as they are now
       ends :
-          (ys : List Station) → length ys ≡ n → ys ≡ benchAfter xs v z w → Fits answer (Out .answer)
+          (ys : List Station) → length ys ≡ n → ys ≡ benchAfter xs v z w → Valued answer (Out .answer)
           → Sq W (Open ys (late blank (has (low made)) blank (has (vbool taken)))) (runs C Λ E mir.t-14 (atRet E Post))
       ends ys len e is =
           assigns ! (of-opd ! (load ! (from ! (fld ! refl (stop !))) (look-in ! (loc 4 10) (sub ! 1 refl (whole !))))) (from ! (stop !))
@@ -275,7 +273,7 @@ module _
       Left₂ = afterBlock 𝓤 H (afterSeq 𝓤 H (Wp 𝓤 H C Λ E mir.t-14 (atReturn 𝓤 H E Post)) (atReturn 𝓤 H E Post))
 
       turn₂ :
-          Fits row (Out .row) → Fits answer (Out .answer) → (t : Turn m) (y : Bool) → ltb (t .idx) m ≡ y
+          Valued row (Out .row) → Valued answer (Out .answer) → (t : Turn m) (y : Bool) → ltb (t .idx) m ≡ y
           → Sq W (I₂ t) (runs C Λ E mir.turn-2 (anyQ (afterTurn 𝓤 H (Below 𝓤 H A (Less m) I₂ t) Left₂)))
       unfolding afterTurn
       turn₂ isR isA t true test =
@@ -327,13 +325,13 @@ module _
           lt-m = ltb-true j m test
 
           lt-n : j < n
-          lt-n = omega (arith, lt-m, walked-few n .0)
+          lt-n = omega (arith, lt-m, copies-few n .0)
 
           lt-ys : j < length ys
           lt-ys = rw (length-copied made xs j (omega (arith, lt-n))) lt-n
 
           lt-8 : j < length made
-          lt-8 = rw (eight (Out .row) isR) (omega (arith, lt-m, walked-few n .1))
+          lt-8 = rw (eight (Out .row) isR) (omega (arith, lt-m, copies-few n .1))
       turn₂ isR isA t false test =
           assigns ! (bin ! (var ! (loc 5 13) refl) (var ! (loc 5 6) refl) tt) (from ! (stop !)) (init ! (loc 5 24) refl (tt, tt)) $
           rewrite ! (loc 5 24) (λ (y : Bool). ‵ (fat fullShare tyBool (l 24) 0 (vbool y))) test refl $ leaves-loop ! (var ! (loc 5 24) refl) $
@@ -341,11 +339,11 @@ module _
           use1 W (given (Eight made) (‵ (fat fullShare arrayT (l 12) 0 (low made))))
           (elements-back 𝓤 H A W T.the-type T′.the-laws T′.the-plain 8 made (l 12) 0 (eight (Out .row) isR)) $ learn ! (λ _.
           move ! (loc 5 12 ∷ []) $ drop ! $ move ! (ahead (loc 4 12)) $
-          ends (copied made (t .idx) xs) (length-copied made xs (t .idx) (omega (arith, t .below, walked-few n .0)))
+          ends (copied made (t .idx) xs) (length-copied made xs (t .idx) (omega (arith, t .below, copies-few n .0)))
           (ap (λ (k : ℕ). copied made k xs) (le-antisymm (t .below) (ltb-false (t .idx) m test)) ∙ bench-copied xs v z w .1) isA)
 
       -- the call of `accepted`, and the branch: the second loop stores the row, or nothing is stored
-      tests : Fits row-benched Out → Sq W (Open xs (late blank (has (low made)) blank blank)) (runs C Λ E mir.t-12 (atRet E Post))
+      tests : Valued row-benched Out → Sq W (Open xs (late blank (has (low made)) blank blank)) (runs C Λ E mir.t-12 (atRet E Post))
       tests is =
           asks ! fm (Accepted 𝓤 H A at-mem run) (known .accepts) (to-accepted 𝓤 H A at-mem run (Out .answer))
           (goes-accepted 𝓤 H A at-mem run (Out .answer) W (row-answer Out is))
@@ -390,12 +388,12 @@ module _
           cs = copied xs m empties
 
           long : length cs ≡ 8
-          long = length-copied xs empties m (rw length-empty (walked-few n .1)) ∙ length-empty
+          long = length-copied xs empties m (rw length-empty (copies-few n .1)) ∙ length-empty
 
           whole-row : Row
           whole-row = record { stations = cs }
 
-          is-row : Eight cs → Fits row whole-row
+          is-row : Eight cs → Valued row whole-row
           is-row isC = LL.owes R.the-type R′.the-laws whole-row (isC, tt)
 
       -- ---- the first loop
@@ -458,10 +456,10 @@ module _
           lt-m = ltb-true i m test
 
           lt-n : i < n
-          lt-n = omega (arith, lt-m, walked-few n .0)
+          lt-n = omega (arith, lt-m, copies-few n .0)
 
           lt-8 : i < length empties
-          lt-8 = rw length-empty (omega (arith, lt-m, walked-few n .1))
+          lt-8 = rw length-empty (omega (arith, lt-m, copies-few n .1))
 
           lt-zs : i < length zs
           lt-zs = rw (length-copied xs empties i (omega (arith, lt-8))) lt-8
@@ -476,9 +474,9 @@ module _
       starts =
           assigns ! (of-opd ! (load ! (from ! (fld ! refl (stop !))) (look-in ! (loc 4 1) (sub ! 1 refl (whole !))))) (from ! (stop !))
           (init ! (loc 4 5) refl (tt, record { fits = room .0 })) $
-          asks ! fm (Walked 𝓤 H A at-mem run) (known .walks) (to-walked 𝓤 H A at-mem run n) (goes-walked 𝓤 H A at-mem run n W (room .0))
+          asks ! fm (Copies 𝓤 H A at-mem run) (known .counts) (to-copies 𝓤 H A at-mem run n) (goes-copies 𝓤 H A at-mem run n W (room .0))
           (and-then ! (var ! (loc 5 5) refl) (no-more !)) (λ u.
-          returned usize-single m (walked-says 𝓤 H A at-mem run n) u (λ m-fits.
+          returned usize-single m (copies-says 𝓤 H A at-mem run n) u (λ m-fits.
           land ! (from ! (stop !)) (init ! (loc 4 6) refl (usize-single .lawful 𝓤 H A W .typed m _ m-fits .0)) $
           asks ! fm (EmptyRow 𝓤 H A at-mem run) (known .empties) (to-empty 𝓤 H A at-mem run) (goes-empty 𝓤 H A at-mem run W) (no-more !) (λ u′.
           returned row emptyRow (empty-says 𝓤 H A at-mem run) u′ (λ is.
@@ -517,13 +515,7 @@ module _
         (are .0 .0 .1) 𝓣 known))
 
     goes : AllGo 𝓤 H A W 1 (bench.signature .params) (bench.ended .kept) stayed
-    goes = (
-      goes-slice 𝓤 H A W 1 0 tt (plain (λ _. T.the-row)),
-      (
-        goes-none 𝓤 H A W 1 (λ _. bool) yes (λ κs x f. refl),
-        (goes-none 𝓤 H A W 1 (λ _. i32) yes (λ κs x f. refl), (goes-none 𝓤 H A W 1 (λ _. bool) yes (λ κs x f. refl), tt)),
-      ),
-    )
+    goes = (goes-slice 𝓤 H A W 1 0 tt (plain (λ _. T.the-row)), inputs-go 𝓤 H A W 1)
 
     meets : Meets 𝓤 H A bench.signature (WpFn 𝓤 H (𝓣 .C) (𝓣 .Λ) code.function) (bench.spec 𝓤 H A at-mem run)
     meets =
@@ -539,7 +531,7 @@ row-bench-spec 𝓤 H 𝓜 𝓖 𝓡 =
     entered 𝓤 H (tripleOf 𝓤 H A bench.signature (bench.spec 𝓤 H A m r)) (tables 𝓤 H 𝓜 𝓡 code.env .C) (tables 𝓤 H 𝓜 𝓡 code.env .Λ) key.name
     code.function (code.unfolded 𝓤 H 𝓜 𝓡)
     (meets 𝓤 H A m r (givenOf 𝓤 H 𝓜 𝓖) (tablesOf 𝓤 H 𝓜 (tables 𝓤 H 𝓜 𝓡 code.env)) (record {
-      walks = cited 𝓤 H (Walked 𝓤 H A m r) 𝓜 𝓡 code.env walked-def.name walked-def.routine code.calls-bench·steps·walked (walked-thm.met 𝓤 H 𝓜 𝓖 𝓡);
+      counts = cited 𝓤 H (Copies 𝓤 H A m r) 𝓜 𝓡 code.env copies-def.name copies-def.routine code.calls-bench·steps·copies (copies-thm.met 𝓤 H 𝓜 𝓖 𝓡);
       empties = cited 𝓤 H (EmptyRow 𝓤 H A m r) 𝓜 𝓡 code.env empty-def.name empty-def.routine code.calls-bench·steps·empty-row (empty-thm.met 𝓤 H 𝓜 𝓖
           𝓡);
       steps = cited 𝓤 H (RowStep 𝓤 H A m r) 𝓜 𝓡 code.env step-def.name step-def.routine code.calls-bench·steps·row-step (step-thm.met 𝓤 H 𝓜 𝓖 𝓡);

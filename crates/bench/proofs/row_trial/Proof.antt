@@ -64,11 +64,11 @@ use Rattle.bench.proofs.Records as C
 use Rattle.bench.proofs.Records.Laws as C′
 use Rattle.bench.proofs.RecordsBenched as P
 use Rattle.bench.proofs.RecordsBenched.Laws as P′
-use Rattle.bench.proofs.Walk.{Fits, i32-single, usize-single, settled, Content, blank, has, Slots, spots, locals, loc}
+use Rattle.bench.proofs.Walk.{Valued, i32-single, usize-single, settled, Content, blank, has, Slots, spots, locals, loc}
 use Rattle.bench.proofs.Walk.{ahead}
 use Rattle.bench.proofs.Walk.{alloc-all, free-all, var, hands, asks, returned}
 use Rattle.bench.proofs.Arrays.{array-low, IsArray, arrayTy, Others, prefix-out, prefix-back}
-use Rattle.bench.proofs.Inputs.{Inputs, InputVals, Narrow, inputs, input-vals, input-list, input-slots, with-inputs}
+use Rattle.bench.proofs.Inputs.{Inputs, InputVals, Narrow, inputs, input-vals, input-list, input-slots, with-inputs, inputs-stay, inputs-go}
 use Rattle.bench.proofs.Singles.{answer, records, records-benched}
 use Rattle.bench.proofs.steps.lent as lent-fn
 use Rattle.bench.proofs.steps.lent.Symbol as lent-def
@@ -83,22 +83,7 @@ use Rattle.bench.proofs.row_trial.Code as code
 use Rattle.bench.proofs.row_trial.Code.Mir as mir
 
 abbrev stayed : Stays (trial.ended .signature .params) (trial.ended .kept)
-stayed = (
-  stay-none (λ _. C.the-row) yes,
-  (
-    stay-none (λ _. usize) yes,
-    (
-      stay-none (λ _. bool) yes,
-      (
-        stay-none (λ _. i32) yes,
-        (
-          stay-none (λ _. bool) yes,
-          tt,
-        ),
-      ),
-    ),
-  ),
-)
+stayed = (stay-none (λ _. C.the-row) yes, (stay-none (λ _. usize) yes, inputs-stay 0))
 
 abbrev word : Ty
 word = tyInt w64
@@ -121,7 +106,7 @@ module _ {M : Type 1} (𝓤 : URA M) (H : Heap 𝓤) (A : Atoms 𝓤) (at-mem : 
   Bench = tripleOf 𝓤 H A bench.signature (bench.spec 𝓤 H A at-mem run)
 
   module _
-      (W : Given 𝓤 H A) (h : Records) (n : ℕ) (v : Bool) (z : ℤ) (w : Bool) (g : Fits records h) (n-fits : n < 2 ^ 64) (z-fits : Narrow z) where
+      (W : Given 𝓤 H A) (h : Records) (n : ℕ) (v : Bool) (z : ℤ) (w : Bool) (g : Valued records h) (n-fits : n < 2 ^ 64) (z-fits : Narrow z) where
     -- the arguments, and their machine values
     abbrev args : Records × (ℕ × Inputs)
     args = (h, (n, inputs v z w))
@@ -171,7 +156,7 @@ module _ {M : Type 1} (𝓤 : URA M) (H : Heap 𝓤) (A : Atoms 𝓤) (at-mem : 
     abbrev Post : Val → SProp 𝓤
     Post = walkOf 𝓤 H A trial.ended stayed (trial.clauses 𝓤 H A at-mem run) .post ((tt, tt, tt, args, at), tt)
 
-    exits : Fits records-benched B → ent 𝓤 (emp 𝓤) (Post (records-benched .val B))
+    exits : Valued records-benched B → ent 𝓤 (emp 𝓤) (Post (records-benched .val B))
     unfolding recordsBenched
     exits is =
         qed W [] ∵ suffices ! _
@@ -233,10 +218,10 @@ module _ {M : Type 1} (𝓤 : URA M) (H : Heap 𝓤) (A : Atoms 𝓤) (at-mem : 
           (has (sliceVal (l 6, 0) (length xs)))
           copy made
 
-      ends : Nine zs → Fits answer (B .answer) → Sq W (locals l (past blank blank blank)) (runs (𝓣 .C) (𝓣 .Λ) E mir.t-6 (atRet E Post))
+      ends : Nine zs → Valued answer (B .answer) → Sq W (locals l (past blank blank blank)) (runs (𝓣 .C) (𝓣 .Λ) E mir.t-6 (atRet E Post))
       ends isZ isN =
-          let isR : Fits records (B .records) = LL.owes C.the-type C′.the-laws (B .records) (isZ, tt) in
-          let isB : Fits records-benched B = LL.owes P.the-type P′.the-laws B (isR, (isN, tt)) in
+          let isR : Valued records (B .records) = LL.owes C.the-type C′.the-laws (B .records) (isZ, tt) in
+          let isB : Valued records-benched B = LL.owes P.the-type P′.the-laws B (isR, (isN, tt)) in
           assigns ! (of-opd ! (var ! (loc 0 6) refl)) (from ! (stop !)) (init ! (loc 0 11) refl (array-typed zs isZ)) $
           assigns ! (agg ! (and-then ! (var ! (loc 0 11) refl) (no-more !))) (from ! (stop !))
           (init ! (loc 0 12) refl (records .lawful 𝓤 H A W .typed (B .records) _ isR .0)) $
@@ -257,13 +242,14 @@ module _ {M : Type 1} (𝓤 : URA M) (H : Heap 𝓤) (A : Atoms 𝓤) (at-mem : 
           (from ! (stop !)) (init ! (loc 0 10) refl (tt, (tt, (record { fits = room .0 }, tt)))) $
           move ! (loc 0 6 ∷ []) $
           use1 W (‵ (cells (mem T.the-row) xs (l 6) 0) ⊛ ‵ (Kept (l 6)))
-          (prefix-out 𝓤 H A W T.the-type T′.the-laws T′.the-plain 9 (h .stations) n (l 6) 0 isA) $ split ! $ lft-new ! tt (λ α. move ! (1 ∷ []) $
+          (prefix-out 𝓤 H A W T.the-type T′.the-laws T′.the-plain 9 (h .stations) n (l 6) 0 isA) $ split ! $ nothing ! $ move ! (ahead (loc 2 6)) $
+          lft-new ! tt (λ α. move ! (1 ∷ []) $
           use1 W (later (some (λ (γ : GName). ‵ (Lent (l 6) α γ) ⊛ ‵ (flent (α ∷ []) (Held T.the-row (length xs) (l 6) 0 γ)))))
           (lends-slice 𝓤 H A W T.the-row (named 0) (α ∷ []) xs (l 6) 0 room) $ await ! tt $ pick ! (λ γ. split ! $
           move ! (2 ∷ 0 ∷ []) $ use2 W (raw (Bench .pre (to-bench (l 6) α γ))) (goes-bench (l 6) α γ) $
-          -- [what the bench asks; the lender's part; the other records; the locals without the cell of lent]
+          -- [what the bench asks; the lender's part; the other records; the locals]
           calls-at ! (fmOf 𝓤 H (W .laws) 𝓣) Bench known (to-bench (l 6) α γ)
-          (and-then ! (var ! (loc 2 10) refl) (and-then ! (var ! (loc 3 3) refl)
+          (and-then ! (var ! (loc 3 10) refl) (and-then ! (var ! (loc 3 3) refl)
           (and-then ! (var ! (loc 3 4) refl) (and-then ! (var ! (loc 3 5) refl) (no-more !))))) (λ u.
           use1 W
           (later (some (λ (r : Answer).
@@ -276,9 +262,9 @@ module _ {M : Type 1} (𝓤 : URA M) (H : Heap 𝓤) (A : Atoms 𝓤) (at-mem : 
           rewrite ! 0 (λ (ss : List Station). ‵ (finally T.the-row γ ss)) (d .left) refl $
           move ! (1 ∷ []) $ split ! $ split ! $ move ! (2 ∷ []) $
           facts ! N.the-row (Is N.the-row) (shows 𝓤 H A N.the-row) r (u ∷ []) (λ is.
-          -- [the token; nothing; the last values; the lender's part; the other records; the locals as before]
-          land ! (from ! (stop !)) (init ! (loc 4 8) refl (answer .lawful 𝓤 H A W .typed r _ is .0)) $
-          rewrite ! (loc 4 8) (λ (y : Val). ‵ (fat fullShare N′.mir (l 8) 0 y)) (settled answer r (B .answer) u is (d .answered) .0) refl $
+          -- [the token; nothing; the last values; the lender's part; the other records; the locals]
+          land ! (from ! (stop !)) (init ! (loc 5 8) refl (answer .lawful 𝓤 H A W .typed r _ is .0)) $
+          rewrite ! (loc 5 8) (λ (y : Val). ‵ (fat fullShare N′.mir (l 8) 0 y)) (settled answer r (B .answer) u is (d .answered) .0) refl $
           -- the lifetime is ended, and the array is whole again: what the bench left, and the other records
           lft-end ! tt $ move ! (0 ∷ 3 ∷ 2 ∷ []) $
           use3 W (later (‵ (Arr (mem T.the-row) (length xs) .lies ys (l 6) 0))) (slice-back 𝓤 H A W T.the-row (α ∷ []) γ ys (length xs) (l 6) 0) $
@@ -286,7 +272,8 @@ module _ {M : Type 1} (𝓤 : URA M) (H : Heap 𝓤) (A : Atoms 𝓤) (at-mem : 
           fsplit ! $ feqL ! (λ same. move ! (0 ∷ 2 ∷ []) $
           use2 W (given (Nine zs) (‵ (fat fullShare arrayT (l 6) 0 (low zs))))
           (prefix-back 𝓤 H A W T.the-type T′.the-laws T′.the-plain 9 (h .stations) ys n (l 6) 0 nine same) $ learn ! (λ isZ.
-          move ! (1 ∷ []) $ drop ! $ move ! (ahead (loc 0 6)) $ ends isZ (settled answer r (B .answer) u is (d .answered) .1))))))))))
+          move ! (1 ∷ []) $ drop ! $ move ! (loc 1 6 ∷ []) $ drop ! $ move ! (ahead (loc 0 6)) $
+          ends isZ (settled answer r (B .answer) u is (d .answered) .1))))))))))
 
     module _ (𝓣 : Tables 𝓤 H) (known-lent : Triple 𝓤 (𝓣 .C lent-def.name) LentCount) (known : Triple 𝓤 (𝓣 .C bench-def.name) Bench) where
       walk : ent 𝓤 (onEntry 𝓤 H A trial.signature tt tt args at)
@@ -305,35 +292,27 @@ module _ {M : Type 1} (𝓤 : URA M) (H : Heap 𝓤) (A : Atoms 𝓤) (at-mem : 
           returned usize-single (length xs) lent-says u (λ is.
           land ! (from ! (stop !)) (init ! (loc 0 7) refl (usize-single .lawful 𝓤 H A W .typed (length xs) _ is .0)) $ lends 𝓣 known l)))
 
-  module _ (W : Given 𝓤 H A) (𝓣 : Tables 𝓤 H) (known-lent : Triple 𝓤 (𝓣 .C lent-def.name) LentCount) (known : Triple 𝓤 (𝓣 .C bench-def.name) Bench)
-    where
-      walks : Walks 𝓤 H A trial.ended stayed (WpFn 𝓤 H (𝓣 .C) (𝓣 .Λ) code.function) (trial.clauses 𝓤 H A at-mem run)
-      walks =
-          walked 𝓤 H A trial.ended stayed (trial.clauses 𝓤 H A at-mem run) (WpFn 𝓤 H (𝓣 .C) (𝓣 .Λ) code.function)
-          (λ κs. ((λ x. records .val x ∷ []), (uint-vals w64, (bool-vals, (sint-vals w32, (bool-vals, tt))))))
-          (λ κs. (records .tells, (uint-tells w64, (bool-tells, (sint-tells w32, (bool-tells, tt))))))
-          (λ κs qs bounds a _ are. via 𝓤 _ (fst∗ 𝓤 _ (emp 𝓤))
-          (walk W (a .0) (a .1 .0) (a .1 .1 .0) (a .1 .1 .1 .0) (a .1 .1 .1 .1 .0) (are .0) (are .1 .0 .1) (are .1 .1 .1 .0 .1) 𝓣 known-lent known))
+  module _
+      (W : Given 𝓤 H A) (𝓣 : Tables 𝓤 H) (known-lent : Triple 𝓤 (𝓣 .C lent-def.name) LentCount)
+      (known : Triple 𝓤 (𝓣 .C bench-def.name) Bench) where
+    walks : Walks 𝓤 H A trial.ended stayed (WpFn 𝓤 H (𝓣 .C) (𝓣 .Λ) code.function) (trial.clauses 𝓤 H A at-mem run)
+    walks =
+        walked 𝓤 H A trial.ended stayed (trial.clauses 𝓤 H A at-mem run) (WpFn 𝓤 H (𝓣 .C) (𝓣 .Λ) code.function)
+        (λ κs. ((λ x. records .val x ∷ []), (uint-vals w64, (bool-vals, (sint-vals w32, (bool-vals, tt))))))
+        (λ κs. (records .tells, (uint-tells w64, (bool-tells, (sint-tells w32, (bool-tells, tt))))))
+        (λ κs qs bounds a _ are. via 𝓤 _ (fst∗ 𝓤 _ (emp 𝓤))
+        (walk W (a .0) (a .1 .0) (a .1 .1 .0) (a .1 .1 .1 .0) (a .1 .1 .1 .1 .0) (are .0) (are .1 .0 .1) (are .1 .1 .1 .0 .1) 𝓣 known-lent known))
 
-      goes : AllGo 𝓤 H A W 0 (trial.signature .params) (trial.ended .kept) stayed
-      goes = (
-        goes-none 𝓤 H A W 0 (λ _. C.the-row) yes (λ κs x f. refl),
-        (
-          goes-none 𝓤 H A W 0 (λ _. usize) yes (λ κs x f. refl),
-          (
-            goes-none 𝓤 H A W 0 (λ _. bool) yes (λ κs x f. refl),
-            (
-              goes-none 𝓤 H A W 0 (λ _. i32) yes (λ κs x f. refl),
-              (goes-none 𝓤 H A W 0 (λ _. bool) yes (λ κs x f. refl), tt),
-            ),
-          ),
-        ),
-      )
+    goes : AllGo 𝓤 H A W 0 (trial.signature .params) (trial.ended .kept) stayed
+    goes = (
+      goes-none 𝓤 H A W 0 (λ _. C.the-row) yes (λ κs x f. refl),
+      (goes-none 𝓤 H A W 0 (λ _. usize) yes (λ κs x f. refl), inputs-go 𝓤 H A W 0),
+    )
 
-      meets : Meets 𝓤 H A trial.signature (WpFn 𝓤 H (𝓣 .C) (𝓣 .Λ) code.function) (trial.spec 𝓤 H A at-mem run)
-      meets =
-          walk-meets 𝓤 H A trial.ended stayed W goes (trial.clauses 𝓤 H A at-mem run) (WpFn 𝓤 H (𝓣 .C) (𝓣 .Λ) code.function)
-          (WpFn-mono 𝓤 H (W .laws) 𝓣 code.function) walks
+    meets : Meets 𝓤 H A trial.signature (WpFn 𝓤 H (𝓣 .C) (𝓣 .Λ) code.function) (trial.spec 𝓤 H A at-mem run)
+    meets =
+        walk-meets 𝓤 H A trial.ended stayed W goes (trial.clauses 𝓤 H A at-mem run) (WpFn 𝓤 H (𝓣 .C) (𝓣 .Λ) code.function)
+        (WpFn-mono 𝓤 H (W .laws) 𝓣 code.function) walks
 
 pub row-trial-spec : {M : Type 1} → stated.statement M
 unfolding code.routine tablesOf

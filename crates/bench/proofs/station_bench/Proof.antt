@@ -40,9 +40,8 @@ use denote.Triple.Statement.{Contract, Triple}
 use denote.Triple.Entry.{onEntry}
 use denote.Triple.Spec.{Meets, tripleOf}
 use denote.Triple.Table.{entered, cited}
-use denote.Triple.Walked.{says, Stays, stay-ref, stay-none, walkOf, AllGo, goes-none, goes-ref, Walks, ends-at, walked, walk-meets}
+use denote.Triple.Walked.{says, Stays, stay-ref, walkOf, AllGo, goes-ref, Walks, ends-at, walked, walk-meets}
 use denote.Triple.Clauses.{ensured, lasts}
-use denote.Exit.{yes}
 use Rattle.relay.specs.declared.Station.{Station}
 use Rattle.relay.proofs.Station as T
 use Rattle.relay.proofs.Station.Laws as T′
@@ -52,9 +51,9 @@ use Rattle.bench.specs.BenchLaws.{station-done, station-stays}
 use Rattle.bench.proofs.Answer as N
 use Rattle.bench.proofs.Answer.Laws as N′
 use Rattle.bench.proofs.StationBenched.Laws as P′
-use Rattle.bench.proofs.Walk.{Fits, bool-single, i32-single, Content, blank, has, Slots, spots, locals, loc, alloc-all, free-all}
+use Rattle.bench.proofs.Walk.{Valued, bool-single, i32-single, Content, blank, has, Slots, spots, locals, loc, alloc-all, free-all}
 use Rattle.bench.proofs.Walk.{var, hands, asks, returned, failed}
-use Rattle.bench.proofs.Inputs.{Inputs, InputVals, Narrow, inputs, input-vals, input-list, input-slots, with-inputs}
+use Rattle.bench.proofs.Inputs.{Inputs, InputVals, Narrow, inputs, input-vals, input-list, input-slots, with-inputs, inputs-stay, inputs-go}
 use Rattle.bench.proofs.Singles.{station, answer, station-benched, station-of, station-answer}
 use Rattle.bench.proofs.Accepted.{Accepted, to-accepted, goes-accepted, accepted-says}
 use Rattle.bench.proofs.steps.accepted.Symbol as accepted-def
@@ -69,7 +68,7 @@ use Rattle.bench.proofs.station_bench.Code as code
 use Rattle.bench.proofs.station_bench.Code.Mir as mir
 
 abbrev stayed : Stays (bench.ended .signature .params) (bench.ended .kept)
-stayed = (stay-ref (0 ∷ []) tt (plain (λ _. T.the-row)), (stay-none (λ _. bool) yes, (stay-none (λ _. i32) yes, (stay-none (λ _. bool) yes, tt))))
+stayed = (stay-ref (0 ∷ []) tt (plain (λ _. T.the-row)), inputs-stay 1)
 
 abbrev refT : Ty
 refT = tyRef (named 0) mut (pointee (T.the-row .written))
@@ -98,7 +97,7 @@ module _ {M : Type 1} (𝓤 : URA M) (H : Heap 𝓤) (A : Atoms 𝓤) (at-mem : 
     taken = eqb (B .answer .number) 0
 
     -- at exit the station is k
-    exits : (k : Station) → k ≡ B .station → Fits answer (B .answer)
+    exits : (k : Station) → k ≡ B .station → Valued answer (B .answer)
         → ent 𝓤 (sep 𝓤 (A .obs γ (T.the-row .coded .code k)) (sep 𝓤 (A .bor κ (Body (mem T.the-row) b o γ)) (A .lft κ q)))
         (Post (answer .val (B .answer)))
     exits k e is =
@@ -116,7 +115,7 @@ module _ {M : Type 1} (𝓤 : URA M) (H : Heap 𝓤) (A : Atoms 𝓤) (at-mem : 
     abbrev to-step : StationStep .Ghost
     to-step = ((tt, tt, tt, (h, inputs v z w), (station .val h ∷ [], input-vals v z w)), tt)
 
-    goes-step : Fits station h → ent 𝓤 (emp 𝓤) (StationStep .pre to-step)
+    goes-step : Valued station h → ent 𝓤 (emp 𝓤) (StationStep .pre to-step)
     goes-step g =
         qed W [] ∵ with-inputs v z w z-fits $ hands station h g $ nothing
         ! $ join ! $
@@ -129,7 +128,7 @@ module _ {M : Type 1} (𝓤 : URA M) (H : Heap 𝓤) (A : Atoms 𝓤) (at-mem : 
     -- ---- the code
     module _
         (𝓣 : Tables 𝓤 H) (known-step : Triple 𝓤 (𝓣 .C step-def.name) StationStep)
-        (known-accepted : Triple 𝓤 (𝓣 .C accepted-def.name) (Accepted 𝓤 H A at-mem run)) (l : ℕ → ℕ) (g : Fits station h) where
+        (known-accepted : Triple 𝓤 (𝓣 .C accepted-def.name) (Accepted 𝓤 H A at-mem run)) (l : ℕ → ℕ) (g : Valued station h) where
       -- the locals: answer, s, valid, value, stop, old, out and whether it is accepted
       abbrev slots : Content → Content → Content → Content → Slots
       slots result old out test =
@@ -148,7 +147,7 @@ module _ {M : Type 1} (𝓤 : URA M) (H : Heap 𝓤) (A : Atoms 𝓤) (at-mem : 
       full result = slots result (has (station .val h)) (has (station-benched .val B)) (has (vbool taken))
 
       -- what follows the branch: the answer is copied, and the borrow is closed at k
-      after : (k : Station) → k ≡ B .station → Fits station k → Fits answer (B .answer) → Sq W (At k (full blank)) (runs (𝓣 .C) (𝓣 .Λ) E mir.t-5
+      after : (k : Station) → k ≡ B .station → Valued station k → Valued answer (B .answer) → Sq W (At k (full blank)) (runs (𝓣 .C) (𝓣 .Λ) E mir.t-5
           (atRet E Post))
       after k e isK isA =
           assigns ! (of-opd ! (load ! (from ! (fld ! refl (stop !))) (look-in ! (loc 4 6) (sub ! 1 refl (whole !))))) (from ! (stop !))
@@ -160,7 +159,7 @@ module _ {M : Type 1} (𝓤 : URA M) (H : Heap 𝓤) (A : Atoms 𝓤) (at-mem : 
           (full (has (answer .val (B .answer)))) tt (by ! (exits k e isA))
 
       -- the branch: the station is stored, or it stays
-      stores : Fits station-benched B → Sq W (At h (full blank)) (runs (𝓣 .C) (𝓣 .Λ) E mir.t-4 (atRet E Post))
+      stores : Valued station-benched B → Sq W (At h (full blank)) (runs (𝓣 .C) (𝓣 .Λ) E mir.t-4 (atRet E Post))
       stores is =
           first ! $ branches ! (var ! (loc 4 7) refl)
           (λ _.
@@ -219,13 +218,7 @@ module _ {M : Type 1} (𝓤 : URA M) (H : Heap 𝓤) (A : Atoms 𝓤) (at-mem : 
         known-step known-accepted))
 
     goes : AllGo 𝓤 H A W 1 (bench.signature .params) (bench.ended .kept) stayed
-    goes = (
-      goes-ref 𝓤 H A W 1 0 tt (plain (λ _. T.the-row)),
-      (
-        goes-none 𝓤 H A W 1 (λ _. bool) yes (λ κs x f. refl),
-        (goes-none 𝓤 H A W 1 (λ _. i32) yes (λ κs x f. refl), (goes-none 𝓤 H A W 1 (λ _. bool) yes (λ κs x f. refl), tt)),
-      ),
-    )
+    goes = (goes-ref 𝓤 H A W 1 0 tt (plain (λ _. T.the-row)), inputs-go 𝓤 H A W 1)
 
     meets : Meets 𝓤 H A bench.signature (WpFn 𝓤 H (𝓣 .C) (𝓣 .Λ) code.function) (bench.spec 𝓤 H A at-mem run)
     meets =

@@ -55,9 +55,9 @@ use Rattle.bench.proofs.Answer as N
 use Rattle.bench.proofs.Answer.Laws as N′
 use Rattle.bench.proofs.StationBenched as P
 use Rattle.bench.proofs.StationBenched.Laws as P′
-use Rattle.bench.proofs.Walk.{Fits, i32-single, settled, Content, blank, has, Slots, spots, locals, loc, ahead}
+use Rattle.bench.proofs.Walk.{Valued, i32-single, settled, Content, blank, has, Slots, spots, locals, loc, ahead}
 use Rattle.bench.proofs.Walk.{alloc-all, free-all, var, hands}
-use Rattle.bench.proofs.Inputs.{Inputs, InputVals, Narrow, inputs, input-vals, input-list, input-slots, with-inputs}
+use Rattle.bench.proofs.Inputs.{Inputs, InputVals, Narrow, inputs, input-vals, input-list, input-slots, with-inputs, inputs-stay, inputs-go}
 use Rattle.bench.proofs.Singles.{station, answer, station-benched}
 use Rattle.bench.proofs.station_bench as bench
 use Rattle.bench.proofs.station_bench.Symbol as bench-def
@@ -69,13 +69,13 @@ use Rattle.bench.proofs.station_trial.Code as code
 use Rattle.bench.proofs.station_trial.Code.Mir as mir
 
 abbrev stayed : Stays (trial.ended .signature .params) (trial.ended .kept)
-stayed = (stay-none (λ _. T.the-row) yes, (stay-none (λ _. bool) yes, (stay-none (λ _. i32) yes, (stay-none (λ _. bool) yes, tt))))
+stayed = (stay-none (λ _. T.the-row) yes, inputs-stay 0)
 
 module _ {M : Type 1} (𝓤 : URA M) (H : Heap 𝓤) (A : Atoms 𝓤) (at-mem : Memory → SProp 𝓤) (run : Routine → Fun 𝓤) where
   abbrev Bench : Contract 𝓤
   Bench = tripleOf 𝓤 H A bench.signature (bench.spec 𝓤 H A at-mem run)
 
-  module _ (W : Given 𝓤 H A) (h : Station) (v : Bool) (z : ℤ) (w : Bool) (g : Fits station h) (z-fits : Narrow z) where
+  module _ (W : Given 𝓤 H A) (h : Station) (v : Bool) (z : ℤ) (w : Bool) (g : Valued station h) (z-fits : Narrow z) where
     -- the arguments, and their machine values
     abbrev args : Station × Inputs
     args = (h, inputs v z w)
@@ -90,7 +90,7 @@ module _ {M : Type 1} (𝓤 : URA M) (H : Heap 𝓤) (A : Atoms 𝓤) (at-mem : 
     abbrev Post : Val → SProp 𝓤
     Post = walkOf 𝓤 H A trial.ended stayed (trial.clauses 𝓤 H A at-mem run) .post ((tt, tt, tt, args, at), tt)
 
-    exits : Fits station-benched B → ent 𝓤 (emp 𝓤) (Post (station-benched .val B))
+    exits : Valued station-benched B → ent 𝓤 (emp 𝓤) (Post (station-benched .val B))
     exits is =
         qed W [] ∵ suffices ! _
         (ends-at 𝓤 H A trial.ended stayed (trial.clauses 𝓤 H A at-mem run) W ((tt, tt, tt, args, at), tt) (station-benched .val B) B
@@ -137,11 +137,11 @@ module _ {M : Type 1} (𝓤 : URA M) (H : Heap 𝓤) (A : Atoms 𝓤) (at-mem : 
 
       -- past the call: the station is the function's own again
       ends :
-          Fits station (B .station) → Fits answer (B .answer)
+          Valued station (B .station) → Valued answer (B .answer)
           → Sq W (locals l (slots blank (has (station .val (B .station))) (has (answer .val (B .answer))) (has (vptr (l 5) 0)) blank))
           (runs (𝓣 .C) (𝓣 .Λ) E mir.t-4 (atRet E Post))
       ends isS isA =
-          let is : Fits station-benched B = LL.owes P.the-type P′.the-laws B (isS, (isA, tt)) in
+          let is : Valued station-benched B = LL.owes P.the-type P′.the-laws B (isS, (isA, tt)) in
           assigns ! (of-opd ! (var ! (loc 0 5) refl)) (from ! (stop !))
           (init ! (loc 0 8) refl (station .lawful 𝓤 H A W .typed (B .station) _ isS .0)) $
           assigns !
@@ -158,13 +158,14 @@ module _ {M : Type 1} (𝓤 : URA M) (H : Heap 𝓤) (A : Atoms 𝓤) (at-mem : 
           Sq W (locals l (slots blank (has (station .val h)) blank (has (vptr (l 5) 0)) blank)) (runs (𝓣 .C) (𝓣 .Λ) E mir.t-3 (atRet E Post))
       unfolding partOf
       lends =
-          move ! (loc 0 5 ∷ []) $ use1 W (‵ (mem T.the-row .lies h (l 5) 0)) (lies (l 5)) $ lft-new ! tt (λ α. move ! (1 ∷ []) $
+          move ! (loc 0 5 ∷ []) $ use1 W (‵ (mem T.the-row .lies h (l 5) 0)) (lies (l 5)) $ nothing ! $ move ! (ahead (loc 1 5)) $
+          lft-new ! tt (λ α. move ! (1 ∷ []) $
           use1 W (later (some (λ (γ : GName). ‵ (Lent (l 5) α γ) ⊛ ‵ (flent (α ∷ []) (Body (mem T.the-row) (l 5) 0 γ)))))
           (lends-ref 𝓤 H A W T.the-row (named 0) (α ∷ []) h (l 5) 0) $ await ! tt $ pick ! (λ γ. split ! $
           move ! (2 ∷ 0 ∷ []) $ use2 W (raw (Bench .pre (to-bench (l 5) α γ))) (goes-bench (l 5) α γ) $
-          -- [what the bench asks; the lender's part; the locals without the cell of lent]
+          -- [what the bench asks; the lender's part; the locals]
           calls-at ! (fmOf 𝓤 H (W .laws) 𝓣) Bench known (to-bench (l 5) α γ)
-          (and-then ! (var ! (loc 1 7) refl) (and-then ! (var ! (loc 2 2) refl)
+          (and-then ! (var ! (loc 2 7) refl) (and-then ! (var ! (loc 2 2) refl)
           (and-then ! (var ! (loc 2 3) refl) (and-then ! (var ! (loc 2 4) refl) (no-more !))))) (λ u.
           use1 W
           (later (some (λ (r : Answer).
@@ -177,9 +178,9 @@ module _ {M : Type 1} (𝓤 : URA M) (H : Heap 𝓤) (A : Atoms 𝓤) (at-mem : 
           rewrite ! 0 (λ (s : Station). ‵ (fres γ (T.the-row .coded .code s))) (done-station h v z w r (ws .0) d .1) refl $
           move ! (1 ∷ []) $ split ! $ split ! $ move ! (2 ∷ []) $
           facts ! N.the-row (Is N.the-row) (shows 𝓤 H A N.the-row) r (u ∷ []) (λ is.
-          -- [the token; nothing; the last value; the lender's part; the locals as before]
-          land ! (from ! (stop !)) (init ! (loc 3 6) refl (answer .lawful 𝓤 H A W .typed r _ is .0)) $
-          rewrite ! (loc 3 6) (λ (y : Val). ‵ (fat fullShare N′.mir (l 6) 0 y)) (settled answer r (B .answer) u is (done-station h v z w r (ws .0) d
+          -- [the token; nothing; the last value; the lender's part; the locals]
+          land ! (from ! (stop !)) (init ! (loc 4 6) refl (answer .lawful 𝓤 H A W .typed r _ is .0)) $
+          rewrite ! (loc 4 6) (λ (y : Val). ‵ (fat fullShare N′.mir (l 6) 0 y)) (settled answer r (B .answer) u is (done-station h v z w r (ws .0) d
           .0) .0) refl $
           -- the lifetime is ended, and the cell is had again, at what the bench left
           lft-end ! tt $ move ! (0 ∷ 3 ∷ 2 ∷ []) $
@@ -190,7 +191,7 @@ module _ {M : Type 1} (𝓤 : URA M) (H : Heap 𝓤) (A : Atoms 𝓤) (at-mem : 
           facts ! T.the-row (Is T.the-row) (shows 𝓤 H A T.the-row) (B .station) (station .val (B .station) ∷ []) (λ isS.
           use1 W (‵ (fat fullShare T′.mir (l 5) 0 (station .val (B .station)))) (W .laws .raw-at fullShare T′.mir (l 5) 0
           (station .val (B .station))) $
-          move ! (1 ∷ []) $ drop ! $ move ! (ahead (loc 0 5)) $
+          move ! (1 ∷ []) $ drop ! $ move ! (loc 1 5 ∷ []) $ drop ! $ move ! (ahead (loc 0 5)) $
           ends isS (settled answer r (B .answer) u is (done-station h v z w r (ws .0) d .0) .1))))))))))
 
     module _ (𝓣 : Tables 𝓤 H) (known : Triple 𝓤 (𝓣 .C bench-def.name) Bench) where
@@ -216,13 +217,7 @@ module _ {M : Type 1} (𝓤 : URA M) (H : Heap 𝓤) (A : Atoms 𝓤) (at-mem : 
         (λ κs qs bounds a _ are. via 𝓤 _ (fst∗ 𝓤 _ (emp 𝓤)) (walk W (a .0) (a .1 .0) (a .1 .1 .0) (a .1 .1 .1 .0) (are .0) (are .1 .1 .0 .1) 𝓣 known))
 
     goes : AllGo 𝓤 H A W 0 (trial.signature .params) (trial.ended .kept) stayed
-    goes = (
-      goes-none 𝓤 H A W 0 (λ _. T.the-row) yes (λ κs x f. refl),
-      (
-        goes-none 𝓤 H A W 0 (λ _. bool) yes (λ κs x f. refl),
-        (goes-none 𝓤 H A W 0 (λ _. i32) yes (λ κs x f. refl), (goes-none 𝓤 H A W 0 (λ _. bool) yes (λ κs x f. refl), tt)),
-      ),
-    )
+    goes = (goes-none 𝓤 H A W 0 (λ _. T.the-row) yes (λ κs x f. refl), inputs-go 𝓤 H A W 0)
 
     meets : Meets 𝓤 H A trial.signature (WpFn 𝓤 H (𝓣 .C) (𝓣 .Λ) code.function) (trial.spec 𝓤 H A at-mem run)
     meets =
