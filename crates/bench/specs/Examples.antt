@@ -32,8 +32,8 @@ i = record { number = 0; letter = 73; value = pos 0; taken = false }
 abbrev s : Answer
 s = record { number = 0; letter = 83; value = pos 0; taken = false }
 
-abbrev yes : Answer → Answer
-yes a = record { number = a .number; letter = a .letter; value = a .value; taken = true }
+abbrev took : Answer → Answer
+took a = record { number = a .number; letter = a .letter; value = a .value; taken = true }
 
 -- a record: its tokens, and how many it counts
 abbrev station : ℤ → ℤ → ℕ → Station
@@ -52,16 +52,16 @@ answers row (x ∷ xs) [] = []
 answers row (x ∷ xs) (stop ∷ stops) =
     benchAnswer row (ltb 0 x) (offered x) (eqb stop 1) ∷ answers (benchAfter row (ltb 0 x) (offered x) (eqb stop 1)) xs stops
 
-abbrev left : List Station → List ℕ → List ℕ → List Station
-left row [] stops = row
-left row (x ∷ xs) [] = row
-left row (x ∷ xs) (stop ∷ stops) = left (benchAfter row (ltb 0 x) (offered x) (eqb stop 1)) xs stops
+abbrev rowLeft : List Station → List ℕ → List ℕ → List Station
+rowLeft row [] stops = row
+rowLeft row (x ∷ xs) [] = row
+rowLeft row (x ∷ xs) (stop ∷ stops) = rowLeft (benchAfter row (ltb 0 x) (offered x) (eqb stop 1)) xs stops
 
 -- ---- one station
 -- 004, table 1: "I T R R T T I S R T" where its valid bits and stops are those of the station's leaving link
 table1 :
     answers (none ∷ []) (1 ∷ 2 ∷ 3 ∷ 0 ∷ 0 ∷ 0 ∷ 0 ∷ 4 ∷ 0 ∷ 0 ∷ []) (0 ∷ 0 ∷ 1 ∷ 1 ∷ 0 ∷ 0 ∷ 0 ∷ 1 ∷ 1 ∷ 0 ∷ []) ≡
-    yes i ∷ yes (t 1) ∷ yes (r 2) ∷ r 2 ∷ t 2 ∷ t 3 ∷ i ∷ yes s ∷ r 4 ∷ t 4 ∷ []
+    took i ∷ took (t 1) ∷ took (r 2) ∷ r 2 ∷ t 2 ∷ t 3 ∷ i ∷ took s ∷ r 4 ∷ t 4 ∷ []
 unfolding
     letter reading linkOf held stationOf placeAfter stopped leaving rowAfter padded allBelow zeroFrom fits benchNumber refusal reply benchAnswer
     benchAfter
@@ -72,8 +72,8 @@ figure6 :
     let enter : List ℕ = 1 ∷ 0 ∷ 2 ∷ 0 ∷ 3 ∷ 4 ∷ 0 ∷ 5 ∷ 6 ∷ 7 ∷ 7 ∷ [] in
     let stop : List ℕ = 0 ∷ 0 ∷ 0 ∷ 0 ∷ 1 ∷ 0 ∷ 1 ∷ 0 ∷ 1 ∷ 0 ∷ 0 ∷ [] in
     (answers (none ∷ []) enter stop ≡
-    yes i ∷ t 1 ∷ yes i ∷ t 2 ∷ yes s ∷ yes (t 3) ∷ r 4 ∷ yes (t 4) ∷ yes (r 5) ∷ t 5 ∷ yes (t 6) ∷ []) ×
-    (left (none ∷ []) enter stop ≡ station (pos 7) (pos 0) 1 ∷ [])
+    took i ∷ t 1 ∷ took i ∷ t 2 ∷ took s ∷ took (t 3) ∷ r 4 ∷ took (t 4) ∷ took (r 5) ∷ t 5 ∷ took (t 6) ∷ []) ×
+    (rowLeft (none ∷ []) enter stop ≡ station (pos 7) (pos 0) 1 ∷ [])
 unfolding
     letter reading linkOf held stationOf placeAfter stopped leaving rowAfter padded allBelow zeroFrom fits benchNumber refusal reply benchAnswer
     benchAfter
@@ -99,8 +99,8 @@ two :
     let enter : List ℕ = 1 ∷ 2 ∷ 3 ∷ 4 ∷ 5 ∷ 5 ∷ 5 ∷ 5 ∷ 0 ∷ 6 ∷ 7 ∷ 0 ∷ 0 ∷ 0 ∷ [] in
     let stop : List ℕ = 0 ∷ 0 ∷ 1 ∷ 1 ∷ 1 ∷ 0 ∷ 1 ∷ 0 ∷ 0 ∷ 1 ∷ 1 ∷ 0 ∷ 1 ∷ 0 ∷ [] in
     (answers (none ∷ none ∷ []) enter stop ≡
-    yes i ∷ yes i ∷ yes (r 1) ∷ yes (r 1) ∷ r 1 ∷ t 1 ∷ r 2 ∷ yes (t 2) ∷ t 3 ∷ yes (r 4) ∷ yes (r 4) ∷ t 4 ∷ r 5 ∷ t 5 ∷ []) ×
-    (left (none ∷ none ∷ []) enter stop ≡ station (pos 7) (pos 0) 1 ∷ station (pos 6) (pos 0) 1 ∷ [])
+    took i ∷ took i ∷ took (r 1) ∷ took (r 1) ∷ r 1 ∷ t 1 ∷ r 2 ∷ took (t 2) ∷ t 3 ∷ took (r 4) ∷ took (r 4) ∷ t 4 ∷ r 5 ∷ t 5 ∷ []) ×
+    (rowLeft (none ∷ none ∷ []) enter stop ≡ station (pos 7) (pos 0) 1 ∷ station (pos 6) (pos 0) 1 ∷ [])
 unfolding
     letter reading linkOf held stationOf placeAfter stopped leaving rowAfter padded allBelow zeroFrom fits benchNumber refusal reply benchAnswer
     benchAfter
@@ -110,7 +110,7 @@ two = (refl, refl)
 eight :
     let one : List Station = replicate 7 (station (pos 1) (pos 0) 1) in
     let full : List Station = replicate 7 (station (pos 1) (pos 2) 2) in
-    (benchAnswer (one ++ (station (pos 3) (pos 0) 1 ∷ [])) true (pos 4) false ≡ yes (t 3)) ×
+    (benchAnswer (one ++ (station (pos 3) (pos 0) 1 ∷ [])) true (pos 4) false ≡ took (t 3)) ×
     (benchAfter (one ++ (station (pos 3) (pos 0) 1 ∷ [])) true (pos 4) false ≡ station (pos 4) (pos 0) 1 ∷ one) ×
     (benchAnswer (full ++ (station (pos 3) (pos 4) 2 ∷ [])) true (pos 5) false ≡ t 3) ×
     (benchAfter (full ++ (station (pos 3) (pos 4) 2 ∷ [])) true (pos 5) false ≡ full ++ (station (pos 4) (pos 0) 1 ∷ []))
@@ -140,10 +140,10 @@ refusals = (refl, refl, refl, refl, refl, refl, refl, refl, refl, refl, refl, re
 byValue :
     let one : Station = station (pos 1) (pos 0) 1 in
     let nine : Records = record { stations = one ∷ one ∷ station (pos 1) (pos 2) 7 ∷ replicate 6 one } in
-    (stationBenched one true (pos 2) true ≡ record { station = station (pos 1) (pos 2) 2; answer = yes (r 1) }) ×
+    (stationBenched one true (pos 2) true ≡ record { station = station (pos 1) (pos 2) 2; answer = took (r 1) }) ×
     (rowBenched (record { stations = replicate 8 one }) 9 true (pos 2) true .answer ≡ refusal 15) ×
     (recordsBenched nine 2 true (pos 2) false ≡
-    record { records = record { stations = station (pos 2) (pos 0) 1 ∷ one ∷ station (pos 1) (pos 2) 7 ∷ replicate 6 one }; answer = yes (t 1) }) ×
+    record { records = record { stations = station (pos 2) (pos 0) 1 ∷ one ∷ station (pos 1) (pos 2) 7 ∷ replicate 6 one }; answer = took (t 1) }) ×
     (recordsBenched nine 3 true (pos 2) false ≡ record { records = nine; answer = refusal 21 }) ×
     (recordsBenched nine 12 true (pos 2) false ≡ record { records = nine; answer = refusal 15 })
 unfolding

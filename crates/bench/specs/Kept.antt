@@ -19,7 +19,7 @@ use Rattle.laws.specs.ListsLaws.{oneIf-few}
 use Rattle.laws.specs.TableLaws.{getD-any}
 use Rattle.laws.specs.TestsLaws.{le-iff}
 use Rattle.relay.specs.declared.Station.{Station}
-use Rattle.relay.specs.Link.{passing, letter}
+use Rattle.relay.specs.Link.{passing}
 use Rattle.relay.specs.LinkLaws.{letter-passing}
 use Rattle.relay.specs.Station.{held, stationOf, clear}
 use Rattle.relay.specs.StationLaws.{held-of}
@@ -53,9 +53,9 @@ module _ (row : List Station) (valid : Bool) (value : ℤ) (stop : Bool) (accept
   incoming = oneIf valid value
 
   -- neither number has a cause
-  some : (eqb (length row) 0 || ltb 8 (length row)) ≡ false
+  sized : (eqb (length row) 0 || ltb 8 (length row)) ≡ false
   unfolding benchNumber
-  some = past 14 _ (eqb (length row) 0 || ltb 8 (length row)) accepted .0
+  sized = past 14 _ (eqb (length row) 0 || ltb 8 (length row)) accepted .0
 
   fit : allBelow (λ i. fits (getD row i noStation)) (length row) ≡ true
   unfolding benchNumber
@@ -70,15 +70,15 @@ module _ (row : List Station) (valid : Bool) (value : ℤ) (stop : Bool) (accept
   -- first in, first out: the token that leaves, and then those of the row after the cycle, are those before it, and then the one that was taken
   pub bench-fifo :
       let a = benchAnswer row valid value stop in
-      oneIf (eqb (a .letter) 84) (a .value) ++ contents (map held (benchAfter row valid value stop)) ≡ contents (map held row) ++ oneIf (a .taken)
-      value
+      oneIf (eqb (a .letter) 84) (a .value) ++ contents (map held (benchAfter row valid value stop)) ≡
+      contents (map held row) ++ oneIf (a .taken) value
   unfolding benchAnswer reply
   bench-fifo =
       let places = map held row in
       let link = leaving incoming places in
       let few : length link ≤ 1 = rw leaving-at (link-few incoming places (length places) (oneIf-few valid value)) in
-      rw (accepted, after, held-all, letter-passing link stop few, ← (taken-passing valid (stopped places stop) value)) (row-fifo incoming places
-      stop)
+      rw (accepted, after, held-all, letter-passing link stop few, ← (taken-passing valid (stopped places stop) value))
+      (row-fifo incoming places stop)
 
   -- no place holds more than two tokens
   places-few : (j : ℕ) → length (getD (map held row) j []) ≤ 2
@@ -105,4 +105,4 @@ module _ (row : List Station) (valid : Bool) (value : ℤ) (stop : Bool) (accept
       let l : i < length (map stationOf places) = rw (length-map, length-after, length-map) h in
       rw (after, getD-any (map stationOf places) i noStation (stationOf []) l, List·getD-map stationOf places i [])
       (fits-of (getD places i []) (row-few incoming (map held row) stop (oneIf-few valid value) places-few i))) in
-      rw (length-bench row valid value stop, some, all)
+      rw (length-bench row valid value stop, sized, all)

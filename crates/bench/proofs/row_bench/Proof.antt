@@ -169,8 +169,8 @@ module _
     abbrev made : List Station
     made = Out .row .stations
 
-    abbrev taken : Bool
-    taken = eqb (Out .answer .number) 0
+    abbrev admitted : Bool
+    admitted = eqb (Out .answer .number) 0
 
     -- the arguments, and their machine values
     abbrev ref : List Station → RefT (List Station)
@@ -250,7 +250,7 @@ module _
 
       -- j records are stored back
       abbrev At₂ : ℕ → List (Item 𝓤)
-      At₂ j = Beside 12 made (copied made j xs) (late blank apart (has (vint w64 j)) (has (vbool taken)))
+      At₂ j = Beside 12 made (copied made j xs) (late blank apart (has (vint w64 j)) (has (vbool admitted)))
 
       array-typed : (ss : List Station) → Eight ss → So (hasTy arrayT (low ss)) × WT (low ss)
       array-typed ss is = R′.the-laws .0 .lawful 𝓤 H A W .typed (map (T.the-type .to) ss) _ is .0
@@ -258,12 +258,12 @@ module _
       -- what follows the branch: the answer is copied, and the borrow is closed at the records as they are now
       ends :
           (ys : List Station) → length ys ≡ n → ys ≡ benchAfter xs v z w → Valued answer (Out .answer)
-          → Sq W (Open ys (late blank (has (low made)) blank (has (vbool taken)))) (runs C Λ E mir.t-14 (atRet E Post))
+          → Sq W (Open ys (late blank (has (low made)) blank (has (vbool admitted)))) (runs C Λ E mir.t-14 (atRet E Post))
       ends ys len e is =
           assigns ! (of-opd ! (load ! (from ! (fld ! refl (stop !))) (look-in ! (loc 4 10) (sub ! 1 refl (whole !))))) (from ! (stop !))
           (init ! (loc 4 0) refl (answer .lawful 𝓤 H A W .typed (Out .answer) _ is .0)) $
           closes-slice ! tt T.the-row xs ys len b o $ returns ! (look ! (loc 3 0) refl) $
-          free-all (Back ys) l (late (has (answer .val (Out .answer))) (has (low made)) blank (has (vbool taken))) tt (by ! (exits ys len e is))
+          free-all (Back ys) l (late (has (answer .val (Out .answer))) (has (low made)) blank (has (vbool admitted))) tt (by ! (exits ys len e is))
 
       -- ---- the second loop
       abbrev I₂ : Turn m → List (Item 𝓤)
@@ -348,7 +348,7 @@ module _
           asks ! fm (Accepted 𝓤 H A at-mem run) (known .accepts) (to-accepted 𝓤 H A at-mem run (Out .answer))
           (goes-accepted 𝓤 H A at-mem run (Out .answer) W (row-answer Out is))
           (and-then ! (load ! (from ! (fld ! refl (stop !))) (look-in ! (loc 5 10) (sub ! 1 refl (whole !)))) (no-more !)) (λ u.
-          returned bool-single taken (accepted-says 𝓤 H A at-mem run (Out .answer)) u (λ _.
+          returned bool-single admitted (accepted-says 𝓤 H A at-mem run (Out .answer)) u (λ _.
           land ! (from ! (stop !)) (init ! (loc 4 23) refl (tt, tt)) $ first ! $ branches ! (var ! (loc 4 23) refl)
           (λ _.
           assigns ! (of-opd ! (lit ! tt)) (from ! (stop !)) (init ! (loc 4 13) refl (tt, record { fits = lit< tt })) $
@@ -360,7 +360,7 @@ module _
           loops ! 𝓣 (Less m) (less-wf m) I₂ (λ t. turn₂ (row-of Out is) (row-answer Out is) t (ltb (t .idx) m) refl)
           (record { idx = 0; below = omega arith }))
           (λ refused. skips ! $
-          exec ! C Λ E mir.t-14 (atRet E Post) $ ends xs refl (copied-stays xs v z w (failed taken refused)) (row-answer Out is))))
+          exec ! C Λ E mir.t-14 (atRet E Post) $ ends xs refl (copied-stays xs v z w (failed admitted refused)) (row-answer Out is))))
 
       -- what follows the first loop: the copy is stepped by value
       steps-on : Sq W (At₁ m) (runs C Λ E mir.t-7 (atRet E Post))

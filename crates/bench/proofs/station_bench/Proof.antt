@@ -93,8 +93,8 @@ module _ {M : Type 1} (𝓤 : URA M) (H : Heap 𝓤) (A : Atoms 𝓤) (at-mem : 
     abbrev B : StationBenched
     B = stationBenched h v z w
 
-    abbrev taken : Bool
-    taken = eqb (B .answer .number) 0
+    abbrev admitted : Bool
+    admitted = eqb (B .answer .number) 0
 
     -- at exit the station is k
     exits : (k : Station) → k ≡ B .station → Valued answer (B .answer)
@@ -144,7 +144,7 @@ module _ {M : Type 1} (𝓤 : URA M) (H : Heap 𝓤) (A : Atoms 𝓤) (at-mem : 
           ∷ ‵ (fobs γ (T.the-row .coded .code h)) ∷ ‵ (fauth γ (T.the-row .coded .code h)) ∷ locals l ss
 
       abbrev full : Content → Slots
-      full result = slots result (has (station .val h)) (has (station-benched .val B)) (has (vbool taken))
+      full result = slots result (has (station .val h)) (has (station-benched .val B)) (has (vbool admitted))
 
       -- what follows the branch: the answer is copied, and the borrow is closed at k
       after : (k : Station) → k ≡ B .station → Valued station k → Valued answer (B .answer) → Sq W (At k (full blank)) (runs (𝓣 .C) (𝓣 .Λ) E mir.t-5
@@ -168,7 +168,7 @@ module _ {M : Type 1} (𝓤 : URA M) (H : Heap 𝓤) (A : Atoms 𝓤) (at-mem : 
           (store-raw ! 0 refl (station .lawful 𝓤 H A W .typed (B .station) _ (station-of B is) .0)) $
           exec ! (𝓣 .C) (𝓣 .Λ) E mir.t-5 (atRet E Post) $ after (B .station) refl (station-of B is) (station-answer B is))
           (λ refused. skips ! $
-          exec ! (𝓣 .C) (𝓣 .Λ) E mir.t-5 (atRet E Post) $ after h (station-stays h v z w (failed taken refused)) g (station-answer B is))
+          exec ! (𝓣 .C) (𝓣 .Λ) E mir.t-5 (atRet E Post) $ after h (station-stays h v z w (failed admitted refused)) g (station-answer B is))
 
       -- from the copy of the station on
       steps : Sq W (At h (slots blank blank blank blank)) (runs (𝓣 .C) (𝓣 .Λ) E mir.t-1 (atRet E Post))
@@ -183,7 +183,7 @@ module _ {M : Type 1} (𝓤 : URA M) (H : Heap 𝓤) (A : Atoms 𝓤) (at-mem : 
           asks ! (fmOf 𝓤 H (W .laws) 𝓣) (Accepted 𝓤 H A at-mem run) known-accepted (to-accepted 𝓤 H A at-mem run (B .answer))
           (goes-accepted 𝓤 H A at-mem run (B .answer) W (station-answer B is))
           (and-then ! (load ! (from ! (fld ! refl (stop !))) (look-in ! (loc 5 6) (sub ! 1 refl (whole !)))) (no-more !)) (λ t.
-          returned bool-single taken (accepted-says 𝓤 H A at-mem run (B .answer)) t (λ _.
+          returned bool-single admitted (accepted-says 𝓤 H A at-mem run (B .answer)) t (λ _.
           land ! (from ! (stop !)) (init ! (loc 4 7) refl (tt, tt)) $ stores is))))
 
     module _
