@@ -70,7 +70,7 @@ module _ {M : Type 1} (𝓤 : URA M) (H : Heap 𝓤) (A : Atoms 𝓤) (at-mem : 
 
     pub step-says :
         (o : RowBenched)
-        → ent 𝓤 (ensured 𝓤 H A step-fn.ended (step-fn.clauses 𝓤 H A at-mem run) tt (r, (n, inputs v z w)) tt o) (fact 𝓤 (o ≡ rowBenched r n v z
-        w))
+        → ent 𝓤 (ensured 𝓤 H A step-fn.ended (step-fn.clauses 𝓤 H A at-mem run) tt (r, (n, inputs v z w)) tt o)
+        (fact 𝓤 (o ≡ rowBenched r n v z w))
     step-says o =
         exE 𝓤 _ (λ ws. snd∗ 𝓤 (sem 𝓤 H A (lasts step-fn.ended tt (r, (n, inputs v z w)) ws)) (fact 𝓤 (o ≡ rowBenched r n v z w)))

@@ -3,9 +3,9 @@ use mathlib.Core.Bool.{Bool, true, false, not, _&&_, _||_, true≢false, or-true
 use mathlib.Core.List.{List, [], _∷_, map}
 use mathlib.Core.Logic.{⊎-elim}
 use mathlib.Core.Path.{_≡_, refl, sym, ap}
-use Prim.Native.Nat.{ℕ, _≤_}
+use Prim.Native.Nat.{ℕ, _<_, _≤_}
 use native.Mathlib.Omega.{arith}
-use borrow.Author.Tests.{ltb-false}
+use borrow.Author.Tests.{lt-ltb, ltb-false}
 use lib.Dec.{eqb, ltb}
 use lib.IntN.{ℤ}
 use lib.ListN.{length, getD, take, length-map, length-take, take-append-drop}
@@ -30,11 +30,19 @@ use Rattle.bench.specs.Bench.{fits, benchNumber, refusal, reply, benchAn
 use Rattle.bench.specs.ByValue.{stationBenched, rowBenched}
 
 -- ---- any row
+-- the second of two causes is enough
+either : (k later : ℕ) (a b : Bool) → b ≡ true → (k if a || b else later) ≡ k
+either k later a b e = rw (e, or-true)
+
 -- one that is too long is refused, whatever it holds
+long-number : (row : List Station) → 8 < length row → benchNumber row ≡ 15
+unfolding benchNumber
+long-number row h = either 15 _ (eqb (length row) 0) _ (lt-ltb _ (length row) (omega arith))
+
 pub bench-long :
-    (row : List Station) (valid : Bool) (value : ℤ) (stop : Bool) → ltb 8 (length row) ≡ true → BenchDone row valid value stop (refusal 15) row
-unfolding benchNumber benchAnswer benchAfter
-bench-long row valid value stop h = record { answered = rw (h, or-true); left = rw (h, or-true) }
+    (row : List Station) (valid : Bool) (value : ℤ) (stop : Bool) → 8 < length row → BenchDone row valid value stop (refusal 15) row
+unfolding benchAnswer benchAfter
+bench-long row valid value stop h = record { answered = rw (long-number row h); left = rw (long-number row h) }
 
 module _ (row : List Station) (valid : Bool) (value : ℤ) (stop : Bool) where
   -- it has as many records as before

@@ -5,7 +5,7 @@ use mathlib.Core.Logic.{⊎-elim}
 use mathlib.Core.Path.{_≡_, refl, sym, ap, _∙_}
 use Prim.Native.Nat.{ℕ, suc, _<_, _≤_}
 use native.Mathlib.Omega.{arith}
-use borrow.Author.Tests.{ltb-false}
+use borrow.Author.Tests.{ltb-true, ltb-false}
 use lib.Dec.{eqb, ltb}
 use lib.IntN.{ℤ}
 use lib.ListN.{length, set, take, drop, List·getD-append}
@@ -76,7 +76,7 @@ module _ (records : List Station) (valid : Bool) (value : ℤ) (stop : Bool) whe
   long-right : ltb 8 (length records) ≡ true → Right 0
   unfolding rowBenched
   long-right h =
-      let d = bench-long records valid value stop h in
+      let d = bench-long records valid value stop (ltb-true 8 (length records) h) in
       rw h (d .answered, copied-none (copied records 0 (emptyRow .stations)) records ∙ d .left)
 
   short-right : ltb 8 (length records) ≡ false → Right (length records)
