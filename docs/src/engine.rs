@@ -1,59 +1,57 @@
-// The run of the cycle engine as one would write it in ordinary Rust, to time ours against: an image on
-// standard input, 100,000 cycles from the fresh state, and on standard output the line that engine_speed
-// prints. The image is taken to be accepted. Two runs follow each other, one without stalls and one where
-// each stall bit is set in one word of sixteen; the argument `free` or `stalls` asks for the one only.
-// Standard error has each run's time.
-//
-//     rustc -C opt-level=3 -o /tmp/engine docs/src/engine.rs
-//     /tmp/engine < crates/engine_speed/stdin
-use std::io::Read;
-use std::time::Instant;
+//! The cycle engine as one would write it in ordinary Rust, to time ours against: in place, on structs. `step` and
+//! `run` work on a state of bytes, as the C boundary has it, and test what ours test.
+use crate::judge::judge;
+use crate::row::{self, Station, STATION_BYTES};
 
-const CYCLES: usize = 100_000;
+/// How many bytes a state has; include/channel_bench.h has the layout.
+pub const STATE_BYTES: usize = 10_692;
 
-struct Channel {
-    from: usize,
-    to: usize,
-    port: usize,
-    stations: usize,
-    depth: u8,
+const NODES: usize = 4;
+const PENDING: usize = 516;
+const STATIONS: usize = 612;
+const QUEUES: usize = 7_524;
+const QUEUE_BYTES: usize = 33;
+const MOST_CYCLES: u32 = 1_000_000;
+
+pub struct Channel {
+    pub from: usize,
+    pub to: usize,
+    pub port: usize,
+    pub stations: usize,
+    pub depth: u8,
 }
 
-struct Netlist {
-    kinds: Vec<u8>,
-    parameters: Vec<i32>,
-    channels: Vec<Channel>,
+pub struct Netlist {
+    pub kinds: Vec<u8>,
+    pub parameters: Vec<i32>,
+    pub channels: Vec<Channel>,
 }
 
-#[derive(Clone, Copy, Default)]
-struct Node {
-    value: i32,
-    firings: u32,
+#[derive(Clone, Copy, Default, PartialEq)]
+pub struct Node {
+    pub value: i32,
+    pub firings: u32,
 }
 
-#[derive(Clone, Copy, Default)]
-struct Station {
-    tokens: [i32; 2],
-    count: u8,
-}
-
-#[derive(Clone, Copy, Default)]
+#[derive(Clone, Copy, Default, PartialEq)]
 struct Queue {
     tokens: [i32; 8],
     count: u8,
 }
 
-// Station j of channel c, counted from 0, stands at 8 * c + j.
-struct State {
-    cycles: u32,
-    nodes: [Node; 64],
+/// Station j of channel c, counted from 0, stands at 8 * c + j.
+#[derive(Clone)]
+pub struct State {
+    pub cycles: u32,
+    pub nodes: [Node; 64],
     pending: [u8; 96],
     stations: [Station; 768],
     queues: [Queue; 96],
 }
 
 impl Netlist {
-    fn decode(image: &[u8]) -> Self {
+    /// Takes an accepted image apart.
+    pub fn decode(image: &[u8]) -> Self {
         let (n, c) = (image[0] as usize, image[1] as usize);
         let (kinds, rest) = image[2..].split_at(n);
         let (parameters, rest) = rest.split_at(4 * n);
@@ -67,13 +65,14 @@ impl Netlist {
         });
         Netlist {
             kinds: kinds.to_vec(),
-            parameters: parameters.chunks_exact(4).map(|p| i32::from_le_bytes([p[0], p[1], p[2], p[3]])).collect(),
+            parameters: parameters.chunks_exact(4).map(|p| row::four(p, 0)).collect(),
             channels: channels.collect(),
         }
     }
 }
 
-fn next_value(kind: u8, s: i32, [a, b, c]: [i32; 3]) -> i32 {
+/// The next value of a node.
+pub fn next_value(kind: u8, s: i32, [a, b, c]: [i32; 3]) -> i32 {
     match kind {
         1 => s.wrapping_add(1),
         2 => a,
@@ -89,29 +88,22 @@ fn next_value(kind: u8, s: i32, [a, b, c]: [i32; 3]) -> i32 {
     }
 }
 
-impl Station {
-    fn shown(&self) -> Option<i32> {
-        (self.count > 0).then_some(self.tokens[0])
-    }
-
-    fn full(&self) -> bool {
-        self.count == 2
-    }
-
-    fn cycle(&mut self, offered: Option<i32>, stop: bool) {
-        let full = self.full();
-        if self.count > 0 && !stop {
-            self.tokens = [self.tokens[1], 0];
-            self.count -= 1;
-        }
-        if let Some(token) = offered.filter(|_| !full) {
-            self.tokens[self.count as usize] = token;
-            self.count += 1;
-        }
-    }
-}
-
 impl Queue {
+    fn read(bytes: &[u8; QUEUE_BYTES]) -> Self {
+        Queue { tokens: std::array::from_fn(|i| row::four(bytes, 4 * i)), count: bytes[32] }
+    }
+
+    fn write(&self, bytes: &mut [u8]) {
+        for (place, token) in bytes.chunks_exact_mut(4).zip(self.tokens) {
+            place.copy_from_slice(&token.to_le_bytes());
+        }
+        bytes[32] = self.count;
+    }
+
+    fn fits(&self, depth: u8) -> bool {
+        self.count <= depth && self.tokens[self.count as usize..].iter().all(|&token| token == 0)
+    }
+
     fn full(&self, depth: u8) -> bool {
         self.count >= depth
     }
@@ -133,14 +125,18 @@ impl Queue {
 }
 
 impl State {
-    fn fresh(net: &Netlist) -> Self {
-        let mut state = State {
+    fn zeros() -> Self {
+        State {
             cycles: 0,
             nodes: [Node::default(); 64],
             pending: [0; 96],
             stations: [Station::default(); 768],
             queues: [Queue::default(); 96],
-        };
+        }
+    }
+
+    pub fn fresh(net: &Netlist) -> Self {
+        let mut state = State::zeros();
         for (node, &value) in state.nodes.iter_mut().zip(&net.parameters) {
             node.value = value;
         }
@@ -148,27 +144,96 @@ impl State {
         state
     }
 
-    fn cycle(&mut self, net: &Netlist, word: u64) {
+    /// Reads a state of `STATE_BYTES`.
+    pub fn read(bytes: &[u8]) -> Self {
+        let mut state = State::zeros();
+        state.cycles = row::four(bytes, 0) as u32;
+        for (node, b) in state.nodes.iter_mut().zip(bytes[NODES..PENDING].as_chunks::<8>().0) {
+            *node = Node { value: row::four(b, 0), firings: row::four(b, 4) as u32 };
+        }
+        state.pending.copy_from_slice(&bytes[PENDING..STATIONS]);
+        for (station, b) in state.stations.iter_mut().zip(bytes[STATIONS..QUEUES].as_chunks().0) {
+            *station = Station::read(b);
+        }
+        for (queue, b) in state.queues.iter_mut().zip(bytes[QUEUES..].as_chunks().0) {
+            *queue = Queue::read(b);
+        }
+        state
+    }
+
+    /// Writes a state of `STATE_BYTES`.
+    pub fn write(&self, bytes: &mut [u8]) {
+        bytes[..NODES].copy_from_slice(&self.cycles.to_le_bytes());
+        for (node, b) in self.nodes.iter().zip(bytes[NODES..PENDING].chunks_exact_mut(8)) {
+            b[..4].copy_from_slice(&node.value.to_le_bytes());
+            b[4..].copy_from_slice(&node.firings.to_le_bytes());
+        }
+        bytes[PENDING..STATIONS].copy_from_slice(&self.pending);
+        for (station, b) in self.stations.iter().zip(bytes[STATIONS..QUEUES].chunks_exact_mut(STATION_BYTES)) {
+            station.write(b);
+        }
+        for (queue, b) in self.queues.iter().zip(bytes[QUEUES..].chunks_exact_mut(QUEUE_BYTES)) {
+            queue.write(b);
+        }
+    }
+
+    /// Whether the state fits the netlist: number 21.
+    pub fn fits(&self, net: &Netlist) -> bool {
+        let (n, c) = (net.kinds.len(), net.channels.len());
+        self.cycles <= MOST_CYCLES
+            && self.nodes[..n].iter().all(|node| node.firings <= self.cycles)
+            && self.nodes[n..].iter().all(|node| *node == Node::default())
+            && self.pending[..c].iter().all(|&mark| mark <= 1)
+            && self.pending[c..].iter().all(|&mark| mark == 0)
+            && self.stations[8 * c..].iter().all(|station| *station == Station::default())
+            && self.queues[c..].iter().all(|queue| *queue == Queue::default())
+            && net.channels.iter().enumerate().all(|(c, channel)| self.channel_fits(c, channel))
+    }
+
+    fn channel_fits(&self, c: usize, channel: &Channel) -> bool {
+        let (row, unused) = self.stations[8 * c..8 * c + 8].split_at(channel.stations);
+        let queue = &self.queues[c];
+        let held: u32 = row.iter().map(|station| station.count as u32).sum();
+        let tokens = self.pending[c] as u32 + held + queue.count as u32;
+        row.iter().all(Station::fits)
+            && unused.iter().all(|station| *station == Station::default())
+            && queue.fits(channel.depth)
+            && tokens + self.nodes[channel.to].firings == self.nodes[channel.from].firings + 1
+    }
+
+    /// What link r of a channel shows.
+    fn arriving(&self, c: usize, channel: &Channel) -> Option<i32> {
+        match self.stations[8 * c..8 * c + channel.stations].last() {
+            Some(station) => station.shown(),
+            None => (self.pending[c] == 1).then_some(self.nodes[channel.from].value),
+        }
+    }
+
+    /// The letters and values of the cycle to come.
+    pub fn show(&self, net: &Netlist, letters: &mut [u8], values: &mut [i32]) {
+        let places = letters.iter_mut().zip(values);
+        for ((c, channel), (letter, value)) in net.channels.iter().enumerate().zip(places) {
+            let token = self.arriving(c, channel);
+            *letter = row::letter(token, self.queues[c].full(channel.depth));
+            *value = token.unwrap_or(0);
+        }
+    }
+
+    pub fn cycle(&mut self, net: &Netlist, word: u64) {
         // What each input has to take, and which nodes do not fire.
         let mut held = word;
         let mut inputs = [[0; 3]; 64];
         for (c, channel) in net.channels.iter().enumerate() {
-            let row = &self.stations[8 * c..8 * c + channel.stations];
             let queue = &self.queues[c];
-            let pending = self.pending[c] == 1;
-            let arriving = match row.last() {
-                Some(station) => station.shown(),
-                None => pending.then_some(self.nodes[channel.from].value),
-            };
-            let stop = match row.first() {
+            let stop = match self.stations[8 * c..8 * c + channel.stations].first() {
                 Some(station) => station.full(),
                 None => queue.full(channel.depth),
             };
-            match queue.oldest().or(arriving) {
+            match queue.oldest().or(self.arriving(c, channel)) {
                 Some(token) => inputs[channel.to][channel.port] = token,
                 None => held |= 1 << channel.to,
             }
-            if pending && stop {
+            if self.pending[c] == 1 && stop {
                 held |= 1 << channel.from;
             }
         }
@@ -180,14 +245,8 @@ impl State {
             let queue = &mut self.queues[c];
             let pending = self.pending[c] == 1;
             let full = queue.full(channel.depth);
-            let mut link = pending.then_some(self.nodes[channel.from].value);
             let stop = row.first().map_or(full, Station::full);
-            for j in 0..row.len() {
-                let stop = row.get(j + 1).map_or(full, Station::full);
-                let shown = row[j].shown();
-                row[j].cycle(link, stop);
-                link = shown;
-            }
+            let link = row::cycle(row, pending.then_some(self.nodes[channel.from].value), full);
             // With an empty queue the arriving token is used at once.
             let taken = fires(channel.to);
             let bypass = taken && queue.count == 0;
@@ -209,75 +268,72 @@ impl State {
         }
         self.cycles += 1;
     }
+}
 
-    fn checksum(&self) -> u64 {
-        let mut sum = Checksum(0);
-        sum.add(self.cycles);
-        for node in &self.nodes {
-            sum.add_value(node.value);
-            sum.add(node.firings);
-        }
-        for station in &self.stations {
-            station.tokens.iter().for_each(|&token| sum.add_value(token));
-            sum.add(station.count as u32);
-        }
-        for (&mark, queue) in self.pending.iter().zip(&self.queues) {
-            sum.add(mark as u32);
-            queue.tokens.iter().for_each(|&token| sum.add_value(token));
-            sum.add(queue.count as u32);
-        }
-        sum.0
+/// The netlist and the state of bytes, or the number that refuses them: 1 to 11 or 21.
+pub fn open(image: &[u8], bytes: &[u8]) -> Result<(Netlist, State), u8> {
+    let number = judge(image);
+    if number != 0 {
+        return Err(number);
+    }
+    if bytes.len() != STATE_BYTES {
+        return Err(21);
+    }
+    let net = Netlist::decode(image);
+    let state = State::read(bytes);
+    if state.fits(&net) {
+        Ok((net, state))
+    } else {
+        Err(21)
     }
 }
 
-// All fields as the digits of a number in base 65,599, modulo 2^32 - 5.
-struct Checksum(u64);
-
-impl Checksum {
-    fn add(&mut self, field: u32) {
-        self.0 = (self.0 * 65_599 + field as u64) % 4_294_967_291;
-    }
-
-    // A value counts as its sign and its magnitude.
-    fn add_value(&mut self, value: i32) {
-        self.add((value < 0) as u32);
-        self.add(value.unsigned_abs());
+/// What refuses a word: 22, 12 or nothing.
+fn refusal(net: &Netlist, state: &State, word: u64) -> u8 {
+    if state.cycles == MOST_CYCLES {
+        22
+    } else if net.kinds.len() < 64 && word >> net.kinds.len() != 0 {
+        12
+    } else {
+        0
     }
 }
 
-// Stall words from xorshift64 (shifts 13, 7, 17), from the seed 88172645463325252. Each word is four
-// draws and-ed, so that a bit is set with probability 1/16, without the bits at or above N.
-fn stall_words(nodes: usize) -> Vec<u64> {
-    let mut x: u64 = 88_172_645_463_325_252;
-    let mut draw = || {
-        x ^= x << 13;
-        x ^= x >> 7;
-        x ^= x << 17;
-        x
+/// One cycle on a state of bytes. Answers the number.
+pub fn step(image: &[u8], bytes: &mut [u8], word: u64, letters: &mut [u8], values: &mut [i32]) -> u8 {
+    let (net, mut state) = match open(image, bytes) {
+        Ok(opened) => opened,
+        Err(number) => return number,
     };
-    (0..CYCLES).map(|_| (draw() & draw() & draw() & draw()) & (u64::MAX >> (64 - nodes))).collect()
+    let number = refusal(&net, &state, word);
+    if number != 0 {
+        return number;
+    }
+    if letters.len().min(values.len()) < net.channels.len() {
+        return 13;
+    }
+    state.show(&net, letters, values);
+    state.cycle(&net, word);
+    state.write(bytes);
+    0
 }
 
-fn run(net: &Netlist, words: &[u64], label: &str) {
-    let mut state = State::fresh(net);
-    let start = Instant::now();
+/// A run on a state of bytes. Answers the number and the steps.
+pub fn run(image: &[u8], bytes: &mut [u8], words: &[u64]) -> (u8, u32) {
+    let (net, mut state) = match open(image, bytes) {
+        Ok(opened) => opened,
+        Err(number) => return (number, 0),
+    };
+    let mut steps = 0;
+    let mut number = 0;
     for &word in words {
-        state.cycle(net, word);
+        number = refusal(&net, &state, word);
+        if number != 0 {
+            break;
+        }
+        state.cycle(&net, word);
+        steps += 1;
     }
-    eprintln!("{label}: {:.3} ms", start.elapsed().as_secs_f64() * 1e3);
-    let firings: u64 = state.nodes.iter().map(|node| node.firings as u64).sum();
-    println!("{label}: {} steps, number 0, {firings} firings, checksum {}", state.cycles, state.checksum());
-}
-
-fn main() {
-    let asked = std::env::args().nth(1);
-    let mut image = Vec::new();
-    std::io::stdin().read_to_end(&mut image).expect("an image");
-    let net = Netlist::decode(&image);
-    if asked.as_deref() != Some("stalls") {
-        run(&net, &vec![0; CYCLES], "free");
-    }
-    if asked.as_deref() != Some("free") {
-        run(&net, &stall_words(net.kinds.len()), "stalls");
-    }
+    state.write(bytes);
+    (number, steps)
 }

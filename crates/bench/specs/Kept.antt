@@ -48,20 +48,21 @@ held-all : (places : List (List ℤ)) → map held (map stationOf places) ≡ pl
 held-all [] = refl
 held-all (place ∷ places) = ap₂ {C = List (List ℤ)} (λ p ps. p ∷ ps) (held-of place) (held-all places)
 
+-- neither number has a cause
+module _ (row : List Station) (accepted : benchNumber row ≡ 0) where
+  pub accepted-long : (eqb (length row) 0 || ltb 8 (length row)) ≡ false
+  unfolding benchNumber
+  accepted-long = past 14 _ (eqb (length row) 0 || ltb 8 (length row)) accepted .0
+
+  pub accepted-fits : allBelow (λ i. fits (getD row i noStation)) (length row) ≡ true
+  unfolding benchNumber
+  accepted-fits =
+      let all = allBelow (λ i. fits (getD row i noStation)) (length row) in
+      not-false all (past 20 0 (not all) (past 14 _ (eqb (length row) 0 || ltb 8 (length row)) accepted .1) .0)
+
 module _ (row : List Station) (valid : Bool) (value : ℤ) (stop : Bool) (accepted : benchNumber row ≡ 0) where
   abbrev incoming : List ℤ
   incoming = oneIf valid value
-
-  -- neither number has a cause
-  sized : (eqb (length row) 0 || ltb 8 (length row)) ≡ false
-  unfolding benchNumber
-  sized = past 14 _ (eqb (length row) 0 || ltb 8 (length row)) accepted .0
-
-  fit : allBelow (λ i. fits (getD row i noStation)) (length row) ≡ true
-  unfolding benchNumber
-  fit =
-      let all = allBelow (λ i. fits (getD row i noStation)) (length row) in
-      not-false all (past 20 0 (not all) (past 14 _ (eqb (length row) 0 || ltb 8 (length row)) accepted .1) .0)
 
   after : benchAfter row valid value stop ≡ map stationOf (rowAfter incoming (map held row) stop)
   unfolding benchAfter
@@ -87,7 +88,7 @@ module _ (row : List Station) (valid : Bool) (value : ℤ) (stop : Bool) (accept
       ⊎-elim
       (λ (h : j < length row).
       let s = getD row j noStation in
-      let f : leb (s .count) 2 ≡ true = and-left (leb (s .count) 2) (clear s) (all-at (λ i. fits (getD row i noStation)) j (length row) h fit) in
+      let f : leb (s .count) 2 ≡ true = and-left (leb (s .count) 2) (clear s) (all-at (λ i. fits (getD row i noStation)) j (length row) h (accepted-fits row accepted)) in
       rw (List·getD-map held row j noStation, length-take) (omega (arith, le-iff (s .count) 2 .0 f)))
       (λ (h : length row ≤ j).
       let l : length (map held row) ≤ j = rw length-map h in
@@ -105,4 +106,4 @@ module _ (row : List Station) (valid : Bool) (value : ℤ) (stop : Bool) (accept
       let l : i < length (map stationOf places) = rw (length-map, length-after, length-map) h in
       rw (after, getD-any (map stationOf places) i noStation (stationOf []) l, List·getD-map stationOf places i [])
       (fits-of (getD places i []) (row-few incoming (map held row) stop (oneIf-few valid value) places-few i))) in
-      rw (length-bench row valid value stop, sized, all)
+      rw (length-bench row valid value stop, (accepted-long row accepted), all)

@@ -1,17 +1,18 @@
 -- Laws of tables. Assumes nothing.
 use mathlib.Core.Bool.{Bool, false, _&&_, _||_, or-false}
-use mathlib.Core.List.{List, [], _∷_, _++_, map, append-assoc}
+use mathlib.Core.List.{List, [], _∷_, _++_, map, append-assoc, append-nil}
 use mathlib.Core.Logic.{⊎-elim}
 use mathlib.Core.Path.{_≡_, refl, ap, sym, _∙_}
 use Prim.Native.Nat.{ℕ, zero, suc, _+_, _-_, _<_, _≤_}
 use native.Mathlib.Nat.{not-suc-le-zero, le-of-suc-le-suc}
 use native.Mathlib.Decide.{ℕ-discrete}
+use native.Mathlib.Numerals.{add-one}
 use native.Mathlib.Omega.{arith}
 use borrow.Author.Tests.{eq-eqb, ne-eqb}
 use lib.Dec.{eqb}
-use lib.ListN.{length, getD, set, drop, replicate, length-append, length-drop, length-set, length-map, length-replicate}
+use lib.ListN.{length, getD, set, take, drop, replicate, length-append, length-drop, length-set, length-map, length-replicate, drop-of-length-le}
 use lib.ListN.{List·getD-append, List·getD-map}
-use lib.Seq.{drop-cons, drop-append-add, getD-at, getD-set-same, getD-set-other, set-at, ext-getD}
+use lib.Seq.{take-all, take-append-le, drop-cons, drop-append-add, getD-at, getD-set-same, getD-set-other, set-at, ext-getD}
 use Rattle.laws.specs.Cases.{lt-or-ge, below-suc}
 use Rattle.laws.specs.Lists.{padded}
 use Rattle.laws.specs.ListsLaws.{length-padded, replicate-rest, padded-rest, padded-set}
@@ -45,12 +46,36 @@ module _ {A : Type 0} where
   table-same f g zero h = refl
   table-same f g (suc n) h = rw (table-same f g n (λ i l. h i (omega arith)), h n (omega arith))
 
+  -- the first of its places
+  pub take-table : (f : ℕ → A) (n m : ℕ) → n ≤ m → take n (table f m) ≡ table f n
+  unfolding table
+  take-table f zero zero h = refl
+  take-table f (suc n) zero h = absurd (not-suc-le-zero h)
+  take-table f n (suc m) h =
+      ⊎-elim
+      (λ (l : n < suc m). take-append-le n (table f m) (f m ∷ []) (rw (length-table f m) (omega arith)) ∙ take-table f n m (omega arith))
+      (λ (l : suc m ≤ n).
+      let e : n ≡ suc m = omega arith in
+      rw e (take-all (suc m) (table f m ++ (f m ∷ [])) (rw (length-append, length-table f m) (omega arith))))
+      (lt-or-ge n (suc m))
+
   -- one more place of the list is written
   pub over-set : (f : ℕ → A) (n : ℕ) (l : List A) → n < length l → set (tableOver f n l) n (f n) ≡ tableOver f (suc n) l
   unfolding table tableOver
   over-set f n [] h = absurd (not-suc-le-zero h)
   over-set f n (x ∷ l) h =
       rw (drop-cons (x ∷ l) n x h, set-at (table f n) (getD (x ∷ l) n x) (drop (suc n) (x ∷ l)) (f n) n (length-table f n), append-assoc)
+
+  -- a loop that writes a table over an array: one turn, and all of them
+  pub over-next :
+      (f : ℕ → A) (l : List A) {n : ℕ} {xs : List A} {x : A} → n < length l → xs ≡ tableOver f n l → x ≡ f n → set xs n x ≡ tableOver f (n + 1) l
+  over-next f l {n} h e q = rw (e, q, add-one n) (over-set f n l h)
+
+  pub over-all : (f : ℕ → A) (l : List A) {n m : ℕ} {xs : List A} → n ≡ m → length l ≡ m → xs ≡ tableOver f n l → xs ≡ table f m
+  unfolding tableOver
+  over-all f l {n} {m} q long e =
+      let none : length l ≤ m = omega (arith, long) in
+      e ∙ rw (q, drop-of-length-le l none, append-nil)
 
   pub length-over : (f : ℕ → A) (n : ℕ) (l : List A) → n ≤ length l → length (tableOver f n l) ≡ length l
   unfolding tableOver

@@ -86,9 +86,8 @@ pub fn four_bytes(image: &[u8], at: usize) -> u64
     )
 }
 
-// A number below 2^32 as the signed number of the same 32 bits.
-fn as_signed(n: u64) -> i32
-    requires { ⌜ n < 2 ^ 32 ⌝ }
+// The signed number of the same 32 bits. For other crates: to read tokens that are kept as bytes.
+pub fn as_signed(n: u32) -> i32
     ensures { λ r. ⌜ r ≡ signed n ⌝ }
 {
     if n < 2147483648 {
@@ -105,7 +104,7 @@ pub fn core_at(image: &[u8], n: u8) -> Core
     let parameter = four_bytes(image, 2 + wide(nodes(image)) + 4 * wide(n));
     Core {
         kind: kind_at(image, n),
-        parameter: as_signed(parameter),
+        parameter: as_signed(parameter as u32),
     }
 }
 

@@ -1,11 +1,11 @@
 -- Texts stored one after another. Assumes nothing.
 use mathlib.Core.List.{List, [], _∷_, _++_}
 use mathlib.Core.Path.{_≡_, refl, ap, _∙_}
-use Prim.Native.Nat.{ℕ, suc, _+_, _<_}
-use native.Mathlib.Nat.{add-zero, add-suc, suc-add, add-assoc}
+use Prim.Native.Nat.{ℕ, suc, _+_, _<_, _≤_}
+use native.Mathlib.Nat.{zero-add, add-zero, add-suc, suc-add, add-assoc}
 use native.Mathlib.Numerals.{add-one}
-use lib.ListN.{length, set, take, getD, length-append}
-use lib.Seq.{sets, length-sets, take-suc, take-length}
+use lib.ListN.{length, set, take, drop, getD, length-append}
+use lib.Seq.{sets, sets-eq, length-sets, take-suc, take-length}
 use Rattle.text.specs.Put.{Put}
 
 -- one text after another is one text
@@ -31,6 +31,10 @@ put-two x y i l = record { bytes = rw add-one; next = refl }
 
 pub put-long : {text old new : List ℕ} {at end : ℕ} → Put text at old new end → length new ≡ length old
 put-long {text} {old} {new} {at} p = ap length (p .bytes) ∙ length-sets old at text
+
+-- a text at the front
+pub put-front : {text old new : List ℕ} {end : ℕ} → length text ≤ length old → Put text 0 old new end → new ≡ text ++ drop (length text) old
+put-front {text} {old} h p = p .bytes ∙ sets-eq text old 0 (rw zero-add h) ∙ rw zero-add
 
 -- one byte more of a text
 pub put-next :

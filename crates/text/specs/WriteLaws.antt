@@ -9,12 +9,12 @@ use native.Mathlib.Omega.{arith}
 use borrow.Author.Tests.{lt-ltb, le-ltb}
 use lib.Dec.{ltb}
 use lib.ListN.{length, set, take, drop, length-append}
-use lib.Seq.{sets-eq, take-at}
+use lib.Seq.{take-at}
 use Rattle.laws.specs.Cases.{true-or-false}
 use Rattle.text.specs.declared.Written.{Written}
 use Rattle.text.specs.Ascii.{ascii}
 use Rattle.text.specs.Put.{Put}
-use Rattle.text.specs.PutLaws.{put-one, put-after, put-long}
+use Rattle.text.specs.PutLaws.{put-one, put-after, put-long, put-front}
 use Rattle.text.specs.Write.{writtenAnswer, writtenOver, WriteDone, Begins}
 
 module _ (text out : List ℕ) where
@@ -29,7 +29,7 @@ module _ (text out : List ℕ) where
   write-made left end h s =
       let e = le-ltb (length out) (length text) h in
       let n : end ≡ length text = s .next ∙ zero-add (length text) in
-      record { answered = rw (e, n); over = s .bytes ∙ rw e (sets-eq text out 0 (rw zero-add h) ∙ rw zero-add) }
+      record { answered = rw (e, n); over = rw e (put-front h s) }
 
 -- ---- for callers: what an answer says
 module _ {text out left : List ℕ} {answer : Written} (d : WriteDone text out answer left) where

@@ -112,7 +112,8 @@ fn less_counts(room: usize, counts: &[u32]) -> usize
 
 // ---- parts of a line. Each is stored from a place on; the answer is the place after it.
 
-fn put_bytes(text: &[u8], out: &mut [u8], at: usize) -> usize
+// Any bytes. For other crates: to store what is no line of a trace.
+pub fn put_bytes(text: &[u8], out: &mut [u8], at: usize) -> usize
     requires { ⌜ at + length (now text) ≤ length (now out) ⌝ }
     ensures { λ r. ⌜ Put (now (text .entry)) at (now (out .entry)) (now (out .exit)) r ⌝ }
 {

@@ -1,24 +1,22 @@
 -- What each way out of a call for a line has done. Assumes nothing.
 use mathlib.Core.Bool.{true, false}
-use mathlib.Core.List.{List, [], _∷_, _++_, append-nil}
+use mathlib.Core.List.{List, _++_}
 use mathlib.Core.Logic.{⊎-elim}
-use mathlib.Core.Path.{_≡_, refl, sym, ap, _∙_}
-use Prim.Native.Nat.{ℕ, zero, suc, _+_, _≤_, _<_}
-use native.Mathlib.Numerals.{add-one}
-use native.Mathlib.Omega.{arith}
+use mathlib.Core.Path.{_≡_, sym, ap, _∙_}
+use Prim.Native.Nat.{ℕ, _≤_}
 use borrow.Author.Tests.{eq-eqb, ne-eqb, eqb-false}
 use lib.Dec.{eqb}
 use lib.IntN.{ℤ}
-use lib.ListN.{length, getD, set, take, drop, length-append, drop-of-length-le}
-use lib.Seq.{take-all, take-at, take-append-le}
-use Rattle.laws.specs.Cases.{true-or-false, lt-or-ge}
-use Rattle.laws.specs.Table.{table, tableOver}
-use Rattle.laws.specs.TableLaws.{length-table, over-set}
+use lib.ListN.{length, take, drop}
+use lib.Seq.{take-at}
+use Rattle.laws.specs.Cases.{true-or-false}
+use Rattle.laws.specs.Table.{table}
+use Rattle.laws.specs.TableLaws.{length-table, take-table}
 use Rattle.netlist.specs.Image.{nodes, channels}
 use Rattle.netlist.specs.Judge.{judge}
 use Rattle.netlist.specs.AcceptedLaws.{accepted}
 use Rattle.state.specs.declared.State.{State}
-use Rattle.state.specs.State.{noNode, nodeAt, firingsAt}
+use Rattle.state.specs.State.{firingsAt}
 use Rattle.state.specs.Fits.{fits}
 use Rattle.cycle.specs.Cycle.{stateAfter, lettersOf, valuesOf}
 use Rattle.engine.specs.declared.Stepped.{Stepped}
@@ -97,33 +95,6 @@ module _ (img : List ℕ) (s : State) (word : ℕ) (out : List ℕ) where
       line-written n a = record { answered = rw (← e, ← t, ← d .answered, n, a); over = d .over ∙ rw (← e, t) }
 
 -- ---- the closing line
--- the first of a table's places
-take-table : {A : Type 0} (f : ℕ → A) (n m : ℕ) → n ≤ m → take n (table f m) ≡ table f n
-unfolding table
-take-table f zero zero h = refl
-take-table f (suc n) zero h = absurd (omega arith)
-take-table f n (suc m) h =
-    ⊎-elim
-    (λ (l : n < suc m). take-append-le n (table f m) (f m ∷ []) (rw (length-table f m) (omega arith)) ∙ take-table f n m (omega arith))
-    (λ (l : suc m ≤ n).
-    let e : n ≡ suc m = omega arith in
-    rw e (take-all (suc m) (table f m ++ (f m ∷ [])) (rw (length-append, length-table f m) (omega arith))))
-    (lt-or-ge n (suc m))
-
--- the firings are written over an array: one more, and all
-module _ (s : State) (l : List ℕ) (long : length l ≡ 64) where
-  pub firings-next :
-      {n : ℕ} {firings : List ℕ} → n < 64 → firings ≡ tableOver (firingsAt s) n l
-      → set firings n (getD (s .nodes) n noNode .firings) ≡ tableOver (firingsAt s) (n + 1) l
-  unfolding nodeAt
-  firings-next {n} h e = rw (e, add-one n) (over-set (firingsAt s) n l (omega (arith, long)))
-
-  pub firings-all : {n : ℕ} {firings : List ℕ} → n ≡ 64 → firings ≡ tableOver (firingsAt s) n l → firings ≡ table (firingsAt s) 64
-  unfolding tableOver
-  firings-all q e =
-      let none : length l ≤ 64 = omega (arith, long) in
-      e ∙ rw (q, drop-of-length-le l none, append-nil)
-
 module _ (img : List ℕ) (s : State) (out : List ℕ) where
   pub closing-judged : (judge img ≡ 0 → ⊥) → ClosingDone img s out (record { number = judge img; length = 0 }) out
   unfolding closingAnswer closingOver

@@ -17,13 +17,13 @@ cast-result-2 c = search needs
 sub-result : tie.Need-sub-result
 sub-result c =
     let n = c .before .args .n in
-    rw (toZ-pos w64 n (omega arith), signed-less n (c .if1 .left) (c .before .pre)) (widen (signed-fits n (c .before .pre)))
+    rw (toZ-pos w64 n (omega arith), signed-less n (c .if1 .left) (omega arith)) (widen (signed-fits n (omega arith)))
 
 cast-result-3 : tie.Need-cast-result-3
 cast-result-3 c =
     let n = c .before .args .n in
-    let f = signed-fits n (c .before .pre) in
-    rw (toZ-pos w64 n (omega arith), signed-less n (c .if1 .left) (c .before .pre), toZ-ofZ (widen f)) f
+    let f = signed-fits n (omega arith) in
+    rw (toZ-pos w64 n (omega arith), signed-less n (c .if1 .left) (omega arith), toZ-ofZ (widen f)) f
 
 returns : tie.Need-returns
 returns c =
@@ -33,8 +33,8 @@ returns c =
 returns-2 : tie.Need-returns-2
 returns-2 c =
     let n = c .before .args .n in
-    let f = signed-fits n (c .before .pre) in
-    rw (toZ-pos w64 n (omega arith), signed-less n (c .if1 .left) (c .before .pre), toZ-ofZ (widen f), toZ-ofZ f)
+    let f = signed-fits n (omega arith) in
+    rw (toZ-pos w64 n (omega arith), signed-less n (c .if1 .left) (omega arith), toZ-ofZ (widen f), toZ-ofZ f)
 
 pub as-signed-spec : {M : Type 1} → statement M
 as-signed-spec =

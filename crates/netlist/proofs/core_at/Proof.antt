@@ -31,6 +31,9 @@ four-bytes-requires c κs = search needs
 kind-at-requires : tie.Need-kind-at-requires
 kind-at-requires c κs = search needs
 
+cast-as-signed : tie.Need-cast-as-signed
+cast-as-signed c = search needs
+
 as-signed-requires : tie.Need-as-signed-requires
 as-signed-requires c κs = search needs
 
@@ -61,5 +64,6 @@ core-at-spec =
     add-four-bytes-2
     four-bytes-requires
     kind-at-requires
+    cast-as-signed
     as-signed-requires
     returns)

@@ -3,8 +3,8 @@ use mathlib.Core.Path.{_≡_, refl}
 use Prim.Native.Nat.{_-_, _≤_}
 use native.Mathlib.Omega.{arith}
 use Rattle.laws.specs.Table.{table, tableOver}
-use Rattle.state.specs.State.{firingsAt}
-use Rattle.tracer.specs.DoneLaws.{firings-next, firings-all}
+use Rattle.laws.specs.TableLaws.{over-next, over-all}
+use Rattle.state.specs.State.{nodeAt, firingsAt}
 use Rattle.tracer.proofs.firings_of.Statement.{statement}
 use Rattle.tracer.proofs.firings_of.Tie as tie
 
@@ -37,10 +37,11 @@ loop-less : tie.Need-loop-less Inv-loop μ-loop
 loop-less c = omega arith
 
 loop-again : tie.Need-loop-again Inv-loop μ-loop
-loop-again c = let l = c .before .before in (omega arith, firings-next (l .before .args .t1) _ refl (omega arith) (l .loop .inv .1))
+unfolding nodeAt
+loop-again c = let l = c .before .before in (omega arith, over-next (firingsAt (l .before .args .t1)) _ (omega arith) (l .loop .inv .1) refl)
 
 returns : tie.Need-returns Inv-loop μ-loop
-returns c = let l = c .before in firings-all (l .before .args .t1) _ refl (omega arith) (l .loop .inv .1)
+returns c = let l = c .before in over-all (firingsAt (l .before .args .t1)) _ (omega arith) refl (l .loop .inv .1)
 
 pub firings-of-spec : {M : Type 1} → statement M
 firings-of-spec =

@@ -1,0 +1,6 @@
+-- What the calls for C answer: how a state and records are written as bytes and read from them, and what each call has done.
+pub mod Bytes
+pub mod Calls
+pub mod BytesLaws
+pub mod CallsLaws
+pub mod RecordsLaws
