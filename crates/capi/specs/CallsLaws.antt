@@ -46,7 +46,7 @@ module _ (img bytes : List ℕ) where
       at (no n) = absurd (true≢false (sym (state-ok img (stateIn bytes) e .1) ∙ other-length n))
 
 -- a state that is stored over the bytes of another is all of them
-all-stored : (bytes : List ℕ) {left : List ℕ} (s : State) → length bytes ≡ stateLength → left ≡ stateBytes s ++ drop stateLength bytes → left ≡ stateBytes s
+pub all-stored : (bytes : List ℕ) {left : List ℕ} (s : State) → length bytes ≡ stateLength → left ≡ stateBytes s ++ drop stateLength bytes → left ≡ stateBytes s
 all-stored bytes s e q = let none : length bytes ≤ stateLength = omega (arith, e) in q ∙ rw (drop-of-length-le bytes none, append-nil)
 
 -- ---- a fresh state

@@ -4,3 +4,6 @@ pub mod Calls
 pub mod BytesLaws
 pub mod CallsLaws
 pub mod RecordsLaws
+pub mod Typed
+pub mod Back
+pub mod BackLaws
