@@ -6,4 +6,5 @@ pub mod CallsLaws
 pub mod RecordsLaws
 pub mod Typed
 pub mod Back
+pub mod Examples
 pub mod BackLaws
