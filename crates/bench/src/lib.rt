@@ -1,6 +1,6 @@
 // Benches for relay stations on their own: one station, or a row of up to eight, is lent and changed
 // in place by one cycle.
-mod steps;
+pub mod steps;
 
 use relay::Row;
 use relay::Station;
@@ -25,9 +25,9 @@ pub struct StationBenched {
 }
 
 // A row after a bench, and its answer.
-struct RowBenched {
-    row: Row,
-    answer: Answer,
+pub struct RowBenched {
+    pub row: Row,
+    pub answer: Answer,
 }
 
 // Nine records, one more than a row may have.

@@ -54,7 +54,7 @@ pub(crate) fn accepted(answer: Answer) -> bool
 }
 
 // The station bench.
-pub(crate) fn station_step(station: Station, valid: bool, value: i32, stop: bool) -> StationBenched
+pub fn station_step(station: Station, valid: bool, value: i32, stop: bool) -> StationBenched
     ensures { λ r. ⌜ r ≡ stationBenched station valid value stop ⌝ }
 {
     if !fits(station) {
@@ -88,7 +88,7 @@ fn row_fits(row: Row, n: usize) -> bool
 }
 
 // The row bench of the first n records.
-pub(crate) fn row_step(row: Row, n: usize, valid: bool, value: i32, stop: bool) -> RowBenched
+pub fn row_step(row: Row, n: usize, valid: bool, value: i32, stop: bool) -> RowBenched
     ensures { λ r. ⌜ r ≡ rowBenched row n valid value stop ⌝ }
 {
     if (n == 0) | ((Row::LENGTH as usize) < n) {

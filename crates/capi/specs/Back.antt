@@ -62,9 +62,9 @@ run-bytes s typed {img} {words} {steps = steps} d =
       rw back at (d .numbered),
       k,
       l ∙ ⊎-elim
-      (λ (q : eqb steps 0 ≡ true). rw q (ap stateBytes (sym (run-still img s words (sym k ∙ eqb-true steps 0 q)))))
-      (λ (q : eqb steps 0 ≡ false). rw q)
-      (true-or-false (eqb steps 0)),
+          (λ (q : eqb steps 0 ≡ true). rw q (ap stateBytes (sym (run-still img s words (sym k ∙ eqb-true steps 0 q)))))
+          (λ (q : eqb steps 0 ≡ false). rw q)
+          (true-or-false (eqb steps 0)),
     )
 
 -- and of a fresh state, in as many bytes as it takes
@@ -72,11 +72,10 @@ pub fresh-bytes :
     (old : List ℕ) → length old ≡ stateLength → {img : List ℕ} {number : ℕ} {left : List ℕ} → FreshCall img old number left
     → (number ≡ freshAnswer img .number) × (left ≡ stateBytes (freshAnswer img .state))
 unfolding freshNumber freshOver freshAnswer
-fresh-bytes old e {img} d =
-    (
-      d .numbered ∙ ⊎-elim
+fresh-bytes old e {img} d = (
+  d .numbered ∙ ⊎-elim
       (λ (q : eqb (judge img) 0 ≡ true). rw (q, e) (sym (eqb-true (judge img) 0 q)))
       (λ (q : eqb (judge img) 0 ≡ false). rw q)
       (true-or-false (eqb (judge img) 0)),
-      all-stored old (freshAnswer img .state) e (rw e at (d .over)),
-    )
+  all-stored old (freshAnswer img .state) e (rw e at (d .over)),
+)

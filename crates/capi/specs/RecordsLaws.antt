@@ -6,24 +6,24 @@ use mathlib.Core.Path.{_≡_, refl, sym, ap, _∙_}
 use Prim.Native.Nat.{ℕ, zero, suc, _+_, _*_, _-_, _≤_, _<_}
 use native.Mathlib.Decide.{ℕ-discrete}
 use native.Mathlib.Omega.{arith}
-use borrow.Author.Tests.{eqb-true, eqb-false, ne-eqb, leb-true, ltb-false}
+use borrow.Author.Tests.{eqb-true, eqb-false, ne-eqb, leb-true, ltb-false, lt-ltb, le-ltb}
 use lib.Dec.{eqb, leb, ltb}
 use lib.IntN.{ℤ}
 use lib.ListN.{length, getD, take, drop, length-append, drop-of-length-le}
-use lib.Seq.{take-all, take-at}
+use lib.Seq.{take-at}
 use Rattle.laws.specs.BelowLaws.{all-at}
 use Rattle.laws.specs.Cases.{true-or-false, lt-or-ge, or-left, or-right}
 use Rattle.laws.specs.Table.{table}
 use Rattle.laws.specs.TableLaws.{length-table, table-at, take-table, table-own}
+use Rattle.relay.specs.declared.Row.{Row}
 use Rattle.relay.specs.declared.Station.{Station}
 use Rattle.relay.specs.RowCycle.{noStation}
 use Rattle.bench.specs.declared.Answer.{Answer}
-use Rattle.bench.specs.declared.Records.{Records}
-use Rattle.bench.specs.declared.RecordsBenched.{RecordsBenched}
+use Rattle.bench.specs.declared.RowBenched.{RowBenched}
 use Rattle.bench.specs.declared.StationBenched.{StationBenched}
 use Rattle.bench.specs.Bench.{fits, benchNumber, refusal, reply, benchAnswer, benchAfter}
 use Rattle.bench.specs.BenchLaws.{bench-long, length-bench, station-done}
-use Rattle.bench.specs.ByValue.{stationBenched, recordsBenched}
+use Rattle.bench.specs.ByValue.{stationBenched, rowBenched}
 use Rattle.bench.specs.Kept.{accepted-long, accepted-fits}
 use Rattle.capi.specs.Bytes.{each, stationBytes, stationIn, noRecord, recordIn, rowRecord, recordCount, rowIn}
 use Rattle.capi.specs.Calls.{BenchCall}
@@ -118,63 +118,55 @@ module _ (bytes : List ℕ) where
     row-whole = omega (arith, record-whole (recordCount bytes - 1) (omega (arith, row-few .0)), row-few .0)
 
 module _
-    (bytes : List ℕ) (records : Records) (r : records .stations ≡ table (rowRecord bytes) 9) (valid : Bool) (value : ℤ) (stop : Bool)
-    {b : RecordsBenched} (d : b ≡ recordsBenched records (recordCount bytes) valid value stop) where
+    (bytes : List ℕ) (row : Row)
+    (r : recordCount bytes ≤ 8 → take (recordCount bytes) (row .stations) ≡ table (rowRecord bytes) (recordCount bytes)) (valid : Bool) (value : ℤ) (stop : Bool)
+    {b : RowBenched} (d : b ≡ rowBenched row (recordCount bytes) valid value stop) where
   abbrev n : ℕ
   n = recordCount bytes
 
-  first-few : n ≤ 9 → take n (records .stations) ≡ rowIn bytes
+  first-few : n ≤ 8 → take n (row .stations) ≡ rowIn bytes
   unfolding rowIn
-  first-few h = rw r (take-table (rowRecord bytes) n 9 h)
-
-  same-answer : benchAnswer (take n (records .stations)) valid value stop ≡ benchAnswer (rowIn bytes) valid value stop
-  same-answer =
-      ⊎-elim
-      (λ (h : n < 10). rw (first-few (omega arith)))
-      (λ (h : 10 ≤ n).
-      let all : take n (records .stations) ≡ table (rowRecord bytes) 9 =
-      rw r (take-all n (table (rowRecord bytes) 9) (rw length-table (omega arith))) in
-      let a = bench-long (table (rowRecord bytes) 9) valid value stop (rw length-table (omega arith)) in
-      let c = bench-long (rowIn bytes) valid value stop (rw (length-row bytes) (omega arith)) in
-      rw all (sym (a .answered) ∙ c .answered))
-      (lt-or-ge n 10)
+  first-few h = r h
 
   row-answered : b .answer ≡ benchAnswer (rowIn bytes) valid value stop
-  unfolding recordsBenched
-  row-answered = ap (λ (x : RecordsBenched). x .answer) d ∙ same-answer
+  unfolding rowBenched
+  row-answered =
+      ⊎-elim
+      (λ (h : 8 < n).
+      ap (λ (x : RowBenched). x .answer) d ∙ rw (lt-ltb 8 n h) (bench-long (rowIn bytes) valid value stop (rw (length-row bytes) h) .answered))
+      (λ (h : n ≤ 8). ap (λ (x : RowBenched). x .answer) d ∙ rw (le-ltb 8 n h, first-few h))
+      (lt-or-ge 8 n)
 
   module _ (z : b .answer .number ≡ 0) where
     accepted-row : benchNumber (rowIn bytes) ≡ 0
     accepted-row = sym (answer-number (rowIn bytes) valid value stop) ∙ sym (ap (λ (x : Answer). x .number) row-answered) ∙ z
 
-    pub row-sized : (n ≤ 9) × (9 * n ≤ length bytes)
-    row-sized = (omega (arith, row-few bytes accepted-row .1), omega (arith, row-whole bytes accepted-row))
+    pub row-sized : (n ≤ 8) × (9 * n ≤ length bytes)
+    row-sized = (row-few bytes accepted-row .1, omega (arith, row-whole bytes accepted-row))
 
     -- the first n records are the row after the bench
-    records-many : n ≤ length (b .records .stations)
-    unfolding recordsBenched
-    records-many =
-        let first = benchAfter (take n (records .stations)) valid value stop in
-        let long : length first ≡ n = length-bench (take n (records .stations)) valid value stop ∙ ap length (first-few (row-sized .0)) ∙ length-row bytes in
-        let all : length (b .records .stations) ≡ length first + length (drop n (records .stations)) =
-        ap (λ (x : RecordsBenched). length (x .records .stations)) d ∙ length-append first (drop n (records .stations)) in
-        omega (arith, long, all)
+    abbrev after-row : List Station
+    after-row = benchAfter (rowIn bytes) valid value stop
 
-    records-after : take n (b .records .stations) ≡ benchAfter (rowIn bytes) valid value stop
-    unfolding recordsBenched
+    stations-after : b .row .stations ≡ after-row ++ drop n (row .stations)
+    unfolding rowBenched
+    stations-after = ap (λ (x : RowBenched). x .row .stations) d ∙ rw (le-ltb 8 n (row-sized .0), first-few (row-sized .0))
+
+    after-long : length after-row ≡ n
+    after-long = length-bench (rowIn bytes) valid value stop ∙ length-row bytes
+
+    records-after : table (λ i. getD (b .row .stations) i noStation) n ≡ after-row
     records-after =
-        let few = first-few (row-sized .0) in
-        let after = benchAfter (rowIn bytes) valid value stop in
-        let long : length after ≡ n = length-bench (rowIn bytes) valid value stop ∙ length-row bytes in
-        ap (λ (x : RecordsBenched). take n (x .records .stations)) d ∙ rw few (take-at after (drop n (records .stations)) n long)
+        first-own (b .row .stations) noStation n (rw (stations-after, length-append, after-long) (omega arith))
+        ∙ rw stations-after (take-at after-row (drop n (row .stations)) n after-long)
 
     pub row-called :
-        {left : List ℕ} → left ≡ each stationBytes (λ i. getD (b .records .stations) i noStation) n ++ drop (9 * n) bytes
+        {left : List ℕ} → left ≡ each stationBytes (λ i. getD (b .row .stations) i noStation) n ++ drop (9 * n) bytes
         → BenchCall (rowIn bytes) bytes valid value stop (b .answer .number) (b .answer .letter) (b .answer .value) (b .answer .taken) left
     row-called e =
-        let g : ℕ → Station = λ i. getD (b .records .stations) i noStation in
+        let g : ℕ → Station = λ i. getD (b .row .stations) i noStation in
         let s = all-stored bytes (each stationBytes g n) (9 * n) (omega (arith, row-whole bytes accepted-row)) e in
-        record { answered = row-answered; changed = s ∙ rw (z, ← records-after) (ap (flatMap stationBytes) (first-own (b .records .stations) noStation n records-many)) }
+        record { answered = row-answered; changed = s ∙ rw z (ap (flatMap stationBytes) records-after) }
 
   pub row-refused :
       (b .answer .number ≡ 0 → ⊥)

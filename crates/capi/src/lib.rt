@@ -147,7 +147,7 @@ pub extern "C" fn channel_bench_station(
 ) -> u8
     ensures { λ r. ⌜ BenchCall (recordIn (now (station .entry)) ∷ []) (now (station .entry)) valid value stop r (now (letter .exit)) (now (shown .exit)) (now (taken .exit)) (now (station .exit)) ⌝ }
 {
-    let benched = bench::station_trial(read::record_in(station), valid, value, stop);
+    let benched = bench::steps::station_step(read::record_in(station), valid, value, stop);
     let answer = benched.answer;
     let leaving = answer.value;
     *letter = answer.letter;
@@ -173,14 +173,14 @@ pub extern "C" fn channel_bench_row(
     ensures { λ r. ⌜ BenchCall (rowIn (now (row .entry))) (now (row .entry)) valid value stop r (now (letter .exit)) (now (shown .exit)) (now (taken .exit)) (now (row .exit)) ⌝ }
 {
     let count = read::record_count(row);
-    let benched = bench::row_trial(read::records_in(row), count, valid, value, stop);
+    let benched = bench::steps::row_step(read::row_in(row, count), count, valid, value, stop);
     let answer = benched.answer;
     let leaving = answer.value;
     *letter = answer.letter;
     *shown = leaving;
     *taken = answer.taken;
     if answer.number == 0 {
-        write::put_records(benched.records, count, row);
+        write::put_row(benched.row, count, row);
     }
     answer.number
 }

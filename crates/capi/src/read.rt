@@ -1,12 +1,12 @@
 // A state and station records from bytes. A reader is given a place with all its bytes behind it.
-use bench::Records;
+use relay::Row;
 use relay::Station;
 use shell::Queue;
 use state::Node;
 use state::State;
 ghost use mathlib.Core.Path.{_≡_};
 ghost use Prim.Native.Nat.{_+_, _*_, _≤_};
-ghost use lib.ListN.{length, getD};
+ghost use lib.ListN.{length, getD, take};
 ghost use Rattle.laws.specs.Table.{table};
 ghost use Rattle.netlist.specs.Image.{fourBytes};
 ghost use Rattle.capi.specs.Bytes.{tokenIn, nodeIn, stationIn, queueIn, noState, stateIn, noRecord, recordIn, rowRecord, recordCount};
@@ -169,7 +169,7 @@ pub(crate) fn record_in(bytes: &[u8]) -> Station
 
 // Record i of a row.
 fn row_record(bytes: &[u8], i: usize) -> Station
-    requires { ⌜ i ≤ 8 ⌝ }
+    requires { ⌜ i ≤ 7 ⌝ }
     ensures { λ r. ⌜ r ≡ rowRecord (now (bytes .entry)) i ⌝ }
 {
     if bytes.len() < RECORD * i + RECORD {
@@ -185,14 +185,29 @@ pub(crate) fn record_count(bytes: &[u8]) -> usize
     (bytes.len() + 8) / RECORD
 }
 
-// The first nine records of a row.
-pub(crate) fn records_in(bytes: &[u8]) -> Records
-    ensures { λ r. ⌜ r .stations ≡ table (rowRecord (now (bytes .entry))) 9 ⌝ }
+// How many records of a row are read: none of one that is too long.
+fn records_read(count: usize) -> usize
+    ensures { λ r. ⌜ (r ≤ 8) × (count ≤ 8 → r ≡ count) ⌝ }
 {
-    let mut stations = [no_record(); 9];
-    for i in 0..9 {
+    if (Row::LENGTH as usize) < count {
+        0
+    } else {
+        count
+    }
+}
+
+// A row of so many records, in the first places of eight. The loop's end is not a constant: unrolled,
+// it would take the row apart into single numbers.
+pub(crate) fn row_in(bytes: &[u8], count: usize) -> Row
+    ensures { λ r. ⌜ (count ≤ 8 → take count (r .stations) ≡ table (rowRecord (now (bytes .entry))) count) ⌝ }
+{
+    let read = records_read(count);
+    let mut stations = [Station::empty(); 8];
+    let mut i: usize = 0;
+    while i < read {
         let station = row_record(bytes, i);
         stations[i] = station;
+        i += 1;
     }
-    Records { stations }
+    Row { stations }
 }

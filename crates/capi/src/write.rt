@@ -1,6 +1,6 @@
 // A state and station records as bytes, stored from a place on; the answer is the place after them. A
 // writer is given a place with enough room behind it.
-use bench::Records;
+use relay::Row;
 use relay::Station;
 use shell::Queue;
 use state::Node;
@@ -133,15 +133,15 @@ pub(crate) fn put_state(state: State, out: &mut [u8])
     put_queues(queues, out, fourth);
 }
 
-// The first bytes of what is lent: the first so many records.
-pub(crate) fn put_records(records: Records, count: usize, out: &mut [u8])
-    requires { ⌜ (count ≤ 9) × (9 * count ≤ length (now out)) ⌝ }
-    ensures { λ _. ⌜ now (out .exit) ≡ each stationBytes (λ i. getD (records .stations) i noStation) count ++ drop (9 * count) (now (out .entry)) ⌝ }
+// The first bytes of what is lent: the first so many records of a row.
+pub(crate) fn put_row(row: Row, count: usize, out: &mut [u8])
+    requires { ⌜ (count ≤ 8) × (9 * count ≤ length (now out)) ⌝ }
+    ensures { λ _. ⌜ now (out .exit) ≡ each stationBytes (λ i. getD (row .stations) i noStation) count ++ drop (9 * count) (now (out .entry)) ⌝ }
 {
     let mut end: usize = 0;
     let mut i: usize = 0;
     while i < count {
-        end = put_station(records.stations[i], out, end);
+        end = put_station(row.stations[i], out, end);
         i += 1;
     }
 }

@@ -14,18 +14,18 @@ use Rattle.capi.proofs.channel_bench_station.Tie as tie
 
 -- the bench was made on the record that the bytes are
 done :
-    (c : tie.After-station-trial)
+    (c : tie.After-station-step)
     → let a = c .before .before .before .before .args in
-    c .station-trial .result ≡ stationBenched (recordIn (a .station .now)) (a .valid) (a .value) (a .stop)
+    c .station-step .result ≡ stationBenched (recordIn (a .station .now)) (a .valid) (a .value) (a .stop)
 done c =
     let s = c .before .before .before .before in
-    rw (c .before .record-in .ensures, toZ-ofZ (s .fits .value)) at (c .station-trial .ensures)
+    rw (c .before .record-in .ensures, toZ-ofZ (s .fits .value)) at (c .station-step .ensures)
 
 record-in-requires : tie.Need-record-in-requires
 record-in-requires c κs = search needs
 
-station-trial-requires : tie.Need-station-trial-requires
-station-trial-requires c κs = search needs
+station-step-requires : tie.Need-station-step-requires
+station-step-requires c κs = search needs
 
 put-station-requires : tie.Need-put-station-requires
 put-station-requires c κs =
@@ -40,7 +40,7 @@ returns : tie.Need-returns
 returns c =
     let d = c .before .before .before .before .before .before .before .before in
     let a = d .before .before .before .before .args in
-    let b = d .station-trial .result in
+    let b = d .station-step .result in
     let front = put-front (rw station-long (omega (arith, record-sized (a .station .now) (a .valid) (a .value) (a .stop) (done d) (c .before .before .before .before .if1 .taken))))
     (c .before .before .put-station .ensures) in
     rw (toZ-ofZ (told (b .answer .value) (c .before .before .before .before .before .before .struct-told .given .1 .1 .0 .1)))
@@ -53,7 +53,7 @@ returns-2 : tie.Need-returns-2
 returns-2 c =
     let d = c .before .before .before .before in
     let a = d .before .before .before .before .args in
-    rw (toZ-ofZ (told (d .station-trial .result .answer .value) (c .before .before .struct-told .given .1 .1 .0 .1)))
+    rw (toZ-ofZ (told (d .station-step .result .answer .value) (c .before .before .struct-told .given .1 .1 .0 .1)))
     (station-refused (a .station .now) (a .valid) (a .value) (a .stop) (done d) (c .if1 .left))
 
 pub channel-bench-station-spec : {M : Type 1} → statement M
@@ -61,7 +61,7 @@ channel-bench-station-spec =
     tie.close
     (tie.spec
     record-in-requires
-    station-trial-requires
+    station-step-requires
     put-station-requires
     same-length
     returns

@@ -1,4 +1,4 @@
--- `capi::write::put_records` meets its contract. Assumes nothing.
+-- `capi::write::put_row` meets its contract. Assumes nothing.
 use mathlib.Core.Path.{_≡_}
 use Prim.Native.Nat.{_-_, _≤_}
 use native.Mathlib.Omega.{arith}
@@ -9,14 +9,14 @@ use Rattle.text.specs.Put.{Put}
 use Rattle.text.specs.PutLaws.{put-none, put-long, put-front}
 use Rattle.capi.specs.Bytes.{each, stationBytes}
 use Rattle.capi.specs.BytesLaws.{station-long, each-long, each-end}
-use Rattle.capi.proofs.write.put_records.Statement.{statement}
-use Rattle.capi.proofs.write.put_records.Tie as tie
+use Rattle.capi.proofs.write.put_row.Statement.{statement}
+use Rattle.capi.proofs.write.put_row.Tie as tie
 
 abbrev Inv-loop : tie.InvT-loop
-Inv-loop count out₀ records end₀ i₀ out end i = (i ≤ count) × Put (each stationBytes (λ k. getD (records .stations) k noStation) i) 0 out₀ out end
+Inv-loop count out₀ row end₀ i₀ out end i = (i ≤ count) × Put (each stationBytes (λ k. getD (row .stations) k noStation) i) 0 out₀ out end
 
 abbrev μ-loop : tie.MeasureT-loop
-μ-loop count out₀ records end₀ i₀ out end i = count - i
+μ-loop count out₀ row end₀ i₀ out end i = count - i
 
 loop-holds : tie.Need-loop-holds Inv-loop μ-loop
 loop-holds c = let a = c .before .args in
@@ -54,8 +54,8 @@ returns c = let l = c .before in
     let long = each-long stationBytes 9 station-long (λ k. getD (s .args .t1 .stations) k noStation) (s .args .count) in
     rw long at (put-front (rw long (s .pre .1)) (rw e at (l .loop .inv .1)))
 
-pub put-records-spec : {M : Type 1} → statement M
-put-records-spec =
+pub put-row-spec : {M : Type 1} → statement M
+put-row-spec =
     tie.close
     (tie.spec
     Inv-loop
