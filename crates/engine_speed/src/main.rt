@@ -2,7 +2,7 @@
 // once with each stall bit set in one word of sixteen, and prints a line for each: the steps done and
 // the number that the run answered, the sum of the nodes' firings, and a checksum of every field of
 // the end state. The image is taken to have 802 bytes. A byte behind it asks for one run only: `f`
-// for the one without stalls, `s` for the other. docs/src/engine.rs prints the same lines.
+// for the one without stalls, `s` for the other.
 use libc::STDOUT_FILENO;
 use relay::Station;
 use shell::Queue;
