@@ -88,7 +88,8 @@ module _ (row : List Station) (valid : Bool) (value : ℤ) (stop : Bool) (accept
       ⊎-elim
       (λ (h : j < length row).
       let s = getD row j noStation in
-      let f : leb (s .count) 2 ≡ true = and-left (leb (s .count) 2) (clear s) (all-at (λ i. fits (getD row i noStation)) j (length row) h (accepted-fits row accepted)) in
+      let f : leb (s .count) 2 ≡ true = and-left (leb (s .count) 2) (clear s)
+      (all-at (λ i. fits (getD row i noStation)) j (length row) h (accepted-fits row accepted)) in
       rw (List·getD-map held row j noStation, length-take) (omega (arith, le-iff (s .count) 2 .0 f)))
       (λ (h : length row ≤ j).
       let l : length (map held row) ≤ j = rw length-map h in

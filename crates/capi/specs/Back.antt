@@ -2,7 +2,7 @@
 -- state that it made: fresh states, steps and runs on bytes are those of `state` and `engine`, call by call, and what the token rule says of lists of
 -- these holds of lists of those.
 use mathlib.Core.Bool.{Bool, true, false}
-use mathlib.Core.List.{List, _++_}
+use mathlib.Core.List.{List}
 use mathlib.Core.Logic.{⊎-elim}
 use mathlib.Core.Path.{_≡_, refl, sym, ap, _∙_}
 use Prim.Native.Nat.{ℕ}
@@ -46,8 +46,12 @@ module _
   step-bytes =
       let back = state-back s typed in
       let n : number ≡ stepOf img s word letters values = rw back at (d .numbered) in
-      let l : left ≡ (stateBytes (stateAfter img word s) if eqb number 0 else stateBytes s) = rw back at (d .changed) in
-      (n, l ∙ bytes-of-choice (eqb number 0) (stateAfter img word s) s ∙ rw n, record { answered = refl; lettered = rw back at (d .lettered); valued = rw back at (d .valued) })
+      let l : left ≡ (stateBytes (stateAfter img word s) if eqb number 0 else stateBytes s) = rw back at (d .changed) in (
+        n,
+        l ∙ bytes-of-choice (eqb number 0) (stateAfter img word s) s ∙ rw n,
+        record
+            { answered = refl; lettered = rw back at (d .lettered); valued = rw back at (d .valued) },
+      )
 
 -- the same of a run
 pub run-bytes :

@@ -1,8 +1,8 @@
 -- Lemmas for reading back: a reader finds what was written behind other bytes, and at the front of them. Assumes nothing.
-use mathlib.Core.List.{List, [], _∷_, _++_, append-assoc, append-nil, flatMap}
+use mathlib.Core.List.{List, [], _∷_, _++_, append-assoc, append-nil}
 use mathlib.Core.Logic.{⊎-elim}
 use mathlib.Core.Path.{_≡_, sym, ap, ap₂, _∙_}
-use Prim.Native.Nat.{ℕ, zero, suc, _+_, _*_, _-_, _%_, _/_, _^_, _<_, _≤_}
+use Prim.Native.Nat.{ℕ, zero, suc, _+_, _*_, _-_, _%_, _/_, _^_, _<_}
 use native.Mathlib.Nat.{not-suc-le-zero, zero-add, add-zero, add-assoc}
 use native.Mathlib.Decide.{ℕ-discrete}
 use native.Mathlib.Omega.{arith}
@@ -155,14 +155,16 @@ unfolding stationIn stationBytes table
 station-front s ys good =
     let first = each tokenBytes (λ k. getD (s .tokens) k (pos 0)) 2 in
     let e = tokens-front (s .tokens) 2 (s .count ∷ ys) (good .0) (good .1) in
-    rw (count-front (s .tokens) 2 (s .count) ys, append-assoc first (s .count ∷ []) ys) (ap (λ (l : List ℤ). record { tokens = l; count = s .count }) e)
+    rw (count-front (s .tokens) 2 (s .count) ys, append-assoc first (s .count ∷ []) ys)
+    (ap (λ (l : List ℤ). record { tokens = l; count = s .count }) e)
 
 pub queue-front : (q : Queue) (ys : List ℕ) → GoodTokens 8 (q .tokens) → queueIn (queueBytes q ++ ys) 0 ≡ q
 unfolding queueIn queueBytes
 queue-front q ys good =
     let first = each tokenBytes (λ k. getD (q .tokens) k (pos 0)) 8 in
     let e = tokens-front (q .tokens) 8 (q .count ∷ ys) (good .0) (good .1) in
-    rw (count-front (q .tokens) 8 (q .count) ys, append-assoc first (q .count ∷ []) ys) (ap (λ (l : List ℤ). record { tokens = l; count = q .count }) e)
+    rw (count-front (q .tokens) 8 (q .count) ys, append-assoc first (q .count ∷ []) ys)
+    (ap (λ (l : List ℤ). record { tokens = l; count = q .count }) e)
 
 -- ---- a state, part by part
 module _ (s : State) (typed : Typed s) where
@@ -232,7 +234,8 @@ module _ (s : State) (typed : Typed s) where
       (λ i h.
       rw at-stations
       (each-back stationBytes stationIn 9 station-long station-behind (λ x. GoodTokens 2 (x .tokens)) station-front
-      (λ i. getD (s .stations) i noStation) 768 i ((cycles ++ cores) ++ marks) queues 612 h (typed .shaped .station i h, typed .held i h) before-stations))
+      (λ i. getD (s .stations) i noStation) 768 i ((cycles ++ cores) ++ marks) queues 612 h (typed .shaped .station i h, typed .held i h)
+      before-stations))
       ∙ own (s .stations) noStation 768 (typed .shaped .stations)
 
   queues-back : table (λ c. queueIn (stateBytes s) (7524 + 33 * c)) 96 ≡ s .queues

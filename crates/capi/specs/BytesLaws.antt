@@ -1,8 +1,8 @@
 -- Laws of bytes: what the writers and the readers do part by part. Assumes nothing.
 use mathlib.Core.Bool.{true, false, true≢false}
-use mathlib.Core.List.{List, [], _∷_, _++_, flatMap}
-use mathlib.Core.Path.{_≡_, refl, sym, ap, _∙_}
-use Prim.Native.Nat.{ℕ, zero, suc, _+_, _*_, _-_, _^_, _<_, _≤_}
+use mathlib.Core.List.{List, [], _∷_, flatMap}
+use mathlib.Core.Path.{_≡_, refl, _∙_}
+use Prim.Native.Nat.{ℕ, suc, _+_, _*_, _-_, _^_, _<_}
 use native.Mathlib.Omega.{arith}
 use borrow.Author.Tests.{ltb-true}
 use lib.IntN.{ℤ, pos, negsuc, _+ℤ_}

@@ -1,8 +1,8 @@
 -- What each way out of the calls has done. Assumes nothing.
 use mathlib.Core.Bool.{true, false, true≢false}
-use mathlib.Core.List.{List, [], _∷_, _++_, append-nil, flatMap}
+use mathlib.Core.List.{List, _++_, append-nil}
 use mathlib.Core.Logic.{⊎-elim}
-use mathlib.Core.Path.{_≡_, refl, sym, ap, _∙_}
+use mathlib.Core.Path.{_≡_, sym, ap, _∙_}
 use Prim.Native.Nat.{ℕ, _≤_, _<_}
 use native.Mathlib.Decide.{ℕ-discrete}
 use native.Mathlib.Omega.{arith}
@@ -46,7 +46,8 @@ module _ (img bytes : List ℕ) where
       at (no n) = absurd (true≢false (sym (state-ok img (stateIn bytes) e .1) ∙ other-length n))
 
 -- a state that is stored over the bytes of another is all of them
-pub all-stored : (bytes : List ℕ) {left : List ℕ} (s : State) → length bytes ≡ stateLength → left ≡ stateBytes s ++ drop stateLength bytes → left ≡ stateBytes s
+pub all-stored :
+    (bytes : List ℕ) {left : List ℕ} (s : State) → length bytes ≡ stateLength → left ≡ stateBytes s ++ drop stateLength bytes → left ≡ stateBytes s
 all-stored bytes s e q = let none : length bytes ≤ stateLength = omega (arith, e) in q ∙ rw (drop-of-length-le bytes none, append-nil)
 
 -- ---- a fresh state
@@ -129,7 +130,8 @@ module _ (bytes : List ℕ) {img words : List ℕ} {answer : Ran} (d : RunDone i
       record {
         numbered = ap (λ (a : Ran). a .number) (d .answered);
         counted = ap (λ (a : Ran). a .steps) (d .answered);
-        changed = all-stored bytes (answer .state) (run-sized h) e ∙ rw (ne-eqb (answer .steps) 0 h) (ap (λ (a : Ran). stateBytes (a .state)) (d .answered));
+        changed = all-stored bytes (answer .state) (run-sized h) e ∙ rw (ne-eqb (answer .steps) 0 h)
+            (ap (λ (a : Ran). stateBytes (a .state)) (d .answered));
       }
 
   pub run-refused : answer .steps ≡ 0 → RunCall img bytes words (answer .number) (answer .steps) bytes
@@ -188,7 +190,9 @@ closing-called bytes d =
       over = d .over;
     }
 
-pub text-called : {text out : List ℕ} {answer : Written} {out-left : List ℕ} → WriteDone text out answer out-left → TextCall text out (answer .number) (answer .length) out-left
+pub text-called :
+    {text out : List ℕ} {answer : Written} {out-left : List ℕ} → WriteDone text out answer out-left
+    → TextCall text out (answer .number) (answer .length) out-left
 text-called d =
     record {
       numbered = ap (λ (a : Written). a .number) (d .answered);

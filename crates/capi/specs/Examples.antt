@@ -1,9 +1,10 @@
--- The definitions here, computed: tokens at the ends of their range; figure 4's state after five cycles, and one with stations and tokens below 0 after
+-- The definitions here, computed: tokens at the ends of their range; figure 4's state after five cycles, and one with stations and tokens below 0
+-- after
 -- twelve; bytes of another length; rows of whole records and others.
 use mathlib.Core.List.{List, [], _∷_, _++_, map, flatMap}
 use mathlib.Core.Path.{_≡_, refl}
-use Prim.Native.Nat.{ℕ, _+_, _*_}
-use lib.IntN.{ℤ, pos, negsuc}
+use Prim.Native.Nat.{ℕ, _+_}
+use lib.IntN.{pos, negsuc}
 use lib.ListN.{take, drop, replicate}
 use Rattle.laws.specs.Below.{allBelow, anyBelow, sumBelow, pickBelow}
 use Rattle.laws.specs.Lists.{padded, zeroFrom}
@@ -15,14 +16,13 @@ use Rattle.netlist.specs.Examples.{figure4}
 use Rattle.pearl.specs.Wrap.{wrap}
 use Rattle.pearl.specs.Next.{exact, nextValue}
 use Rattle.node.specs.Node.{portValue, nextOf}
-use Rattle.relay.specs.declared.Station.{Station}
 use Rattle.relay.specs.Link.{linkOf, letter, reading}
 use Rattle.relay.specs.Station.{held, stationOf, placeAfter}
 use Rattle.relay.specs.Row.{stopped, leaving, rowAfter}
 use Rattle.shell.specs.Queue.{waiting, queueOf, full}
 use Rattle.shell.specs.Channel.{blocked, arriving, input, stopBelow, stopAbove, seen, channelAfter}
 use Rattle.state.specs.State.{nodeAt, markAt, stationAt, queueAt, channelIn, stateOf}
-use Rattle.state.specs.Fresh.{freshState, zeros}
+use Rattle.state.specs.Fresh.{freshState}
 use Rattle.state.specs.Fits.{fits, cyclesFit}
 use Rattle.cycle.specs.Cycle.{stalled, inputAt, blockedAt, allReady, anyBlocked, fires, nodeAfter, channelNext, stateAfter, after}
 use Rattle.engine.specs.Examples.{stationed, stalls}

@@ -1,9 +1,9 @@
 -- What each way out of the benches on bytes has done. Assumes nothing.
-use mathlib.Core.Bool.{Bool, true, false, _||_, true≢false}
+use mathlib.Core.Bool.{Bool, true, false, true≢false}
 use mathlib.Core.List.{List, [], _∷_, _++_, append-nil, flatMap}
 use mathlib.Core.Logic.{⊎-elim}
 use mathlib.Core.Path.{_≡_, refl, sym, ap, _∙_}
-use Prim.Native.Nat.{ℕ, zero, suc, _+_, _*_, _-_, _≤_, _<_}
+use Prim.Native.Nat.{ℕ, _+_, _*_, _-_, _≤_, _<_}
 use native.Mathlib.Decide.{ℕ-discrete}
 use native.Mathlib.Omega.{arith}
 use borrow.Author.Tests.{eqb-true, eqb-false, ne-eqb, leb-true, ltb-false, lt-ltb, le-ltb}
@@ -25,7 +25,7 @@ use Rattle.bench.specs.Bench.{fits, benchNumber, refusal, reply, benchAnswer, b
 use Rattle.bench.specs.BenchLaws.{bench-long, length-bench, station-done}
 use Rattle.bench.specs.ByValue.{stationBenched, rowBenched}
 use Rattle.bench.specs.Kept.{accepted-long, accepted-fits}
-use Rattle.capi.specs.Bytes.{each, stationBytes, stationIn, noRecord, recordIn, rowRecord, recordCount, rowIn}
+use Rattle.capi.specs.Bytes.{each, stationBytes, noRecord, recordIn, rowRecord, recordCount, rowIn}
 use Rattle.capi.specs.Calls.{BenchCall}
 
 -- a bench answers its number
@@ -51,7 +51,8 @@ first-own : {A : Type 0} (l : List A) (d : A) (n : ℕ) → n ≤ length l → t
 first-own l d n h = sym (take-table (λ i. getD l i d) n (length l) h) ∙ ap (take n) (sym (table-own l d))
 
 -- ---- a station
-module _ (bytes : List ℕ) (valid : Bool) (value : ℤ) (stop : Bool) {b : StationBenched} (d : b ≡ stationBenched (recordIn bytes) valid value stop) where
+module _
+    (bytes : List ℕ) (valid : Bool) (value : ℤ) (stop : Bool) {b : StationBenched} (d : b ≡ stationBenched (recordIn bytes) valid value stop) where
   abbrev row : List Station
   row = recordIn bytes ∷ []
 
@@ -83,7 +84,8 @@ module _ (bytes : List ℕ) (valid : Bool) (value : ℤ) (stop : Bool) {b : Stat
       record { answered = answered; changed = s ∙ rw (z, ← after) (sym (append-nil (stationBytes (b .station)))) }
 
   pub station-refused :
-      (b .answer .number ≡ 0 → ⊥) → BenchCall row bytes valid value stop (b .answer .number) (b .answer .letter) (b .answer .value) (b .answer .taken) bytes
+      (b .answer .number ≡ 0 → ⊥) → BenchCall row bytes valid value stop (b .answer .number) (b .answer .letter) (b .answer .value)
+      (b .answer .taken) bytes
   station-refused n = record { answered = answered; changed = rw (ne-eqb (b .answer .number) 0 n) }
 
 -- ---- a row
@@ -119,7 +121,8 @@ module _ (bytes : List ℕ) where
 
 module _
     (bytes : List ℕ) (row : Row)
-    (r : recordCount bytes ≤ 8 → take (recordCount bytes) (row .stations) ≡ table (rowRecord bytes) (recordCount bytes)) (valid : Bool) (value : ℤ) (stop : Bool)
+    (r : recordCount bytes ≤ 8 → take (recordCount bytes) (row .stations) ≡ table (rowRecord bytes) (recordCount bytes)) (valid : Bool) (value : ℤ)
+    (stop : Bool)
     {b : RowBenched} (d : b ≡ rowBenched row (recordCount bytes) valid value stop) where
   abbrev n : ℕ
   n = recordCount bytes

@@ -34,7 +34,8 @@ same-length-2 c = search needs
 returns : tie.Need-returns
 returns c =
     let d = c .before .before .before .before .before .before .before .before in
-    line-called (d .before .before .before .before .before .before .before .args .state .now) (done d) (c .before .before .before .before .if1 .taken) (c .before .before .put-state .ensures)
+    line-called (d .before .before .before .before .before .before .before .args .state .now) (done d)
+    (c .before .before .before .before .if1 .taken) (c .before .before .put-state .ensures)
 
 same-length-3 : tie.Need-same-length-3
 same-length-3 c = search needs

@@ -36,7 +36,8 @@ returns-2 c =
     let p = c .before .before in
     let e = p .before .before .before in
     let h = e .before in
-    text-called (write-made header (h .before .before .args .out .now) _ _ (omega (arith, long, e .if1 .left)) (rw (h .header .ensures) at (p .put-bytes .ensures)))
+    text-called (write-made header (h .before .before .args .out .now) _ _ (omega (arith, long, e .if1 .left))
+    (rw (h .header .ensures) at (p .put-bytes .ensures)))
 
 pub channel-bench-header-line-spec : {M : Type 1} → statement M
 channel-bench-header-line-spec =

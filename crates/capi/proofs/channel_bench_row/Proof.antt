@@ -1,6 +1,5 @@
 -- `capi::channel_bench_row` meets its contract. Assumes nothing.
 use mathlib.Core.Path.{_≡_}
-use native.Mathlib.Omega.{arith}
 use borrow.Author.Needs.{needs}
 use mir.Facts.{toZ-ofZ}
 use Rattle.laws.specs.SignedLaws.{told}
@@ -47,7 +46,8 @@ returns c =
     let i = d .before .row-in in
     let n = d .before .before .before .record-count .ensures in
     rw (toZ-ofZ (told (d .row-step .result .answer .value) (c .before .before .before .before .before .before .struct-told .given .1 .1 .0 .1)))
-    (row-called (a .row .now) (i .result) (rw n at (i .ensures)) (a .valid) (a .value) (a .stop) (done d) (c .before .before .before .before .if1 .taken)
+    (row-called (a .row .now) (i .result) (rw n at (i .ensures)) (a .valid) (a .value) (a .stop) (done d)
+    (c .before .before .before .before .if1 .taken)
     (rw n at (c .before .before .put-row .ensures)))
 
 same-length-2 : tie.Need-same-length-2

@@ -8,7 +8,10 @@ use Rattle.capi.proofs.channel_bench_run.Statement.{statement}
 use Rattle.capi.proofs.channel_bench_run.Tie as tie
 
 -- the run was made on the state that the bytes are
-done : (c : tie.After-run) → let a = c .before .before .before .before .before .before .args in RunDone (a .image .now) (stateIn (a .state .now)) (a .words .now) (c .run .result)
+done :
+    (c : tie.After-run)
+    → let a = c .before .before .before .before .before .before .args in
+    RunDone (a .image .now) (stateIn (a .state .now)) (a .words .now) (c .run .result)
 done c = rw (c .before .state-in .ensures) at (c .run .ensures)
 
 state-in-requires : tie.Need-state-in-requires
@@ -28,7 +31,8 @@ same-length c = search needs
 returns : tie.Need-returns
 returns c =
     let d = c .before .before .before .before .before .before in
-    run-called (d .before .before .before .before .before .before .args .state .now) (done d) (c .before .before .before .before .if1 .taken) (c .before .before .put-state .ensures)
+    run-called (d .before .before .before .before .before .before .args .state .now) (done d) (c .before .before .before .before .if1 .taken)
+    (c .before .before .put-state .ensures)
 
 same-length-2 : tie.Need-same-length-2
 same-length-2 c = search needs

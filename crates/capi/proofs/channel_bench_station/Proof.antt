@@ -41,10 +41,15 @@ returns c =
     let d = c .before .before .before .before .before .before .before .before in
     let a = d .before .before .before .before .args in
     let b = d .station-step .result in
-    let front = put-front (rw station-long (omega (arith, record-sized (a .station .now) (a .valid) (a .value) (a .stop) (done d) (c .before .before .before .before .if1 .taken))))
+    let front = put-front (rw station-long (omega (
+      arith,
+      record-sized (a .station .now) (a .valid) (a .value) (a .stop) (done d)
+          (c .before .before .before .before .if1 .taken),
+    )))
     (c .before .before .put-station .ensures) in
     rw (toZ-ofZ (told (b .answer .value) (c .before .before .before .before .before .before .struct-told .given .1 .1 .0 .1)))
-    (station-called (a .station .now) (a .valid) (a .value) (a .stop) (done d) (c .before .before .before .before .if1 .taken) (rw station-long at front))
+    (station-called (a .station .now) (a .valid) (a .value) (a .stop) (done d) (c .before .before .before .before .if1 .taken)
+    (rw station-long at front))
 
 same-length-2 : tie.Need-same-length-2
 same-length-2 c = search needs

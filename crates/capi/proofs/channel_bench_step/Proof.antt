@@ -11,7 +11,8 @@ use Rattle.capi.proofs.channel_bench_step.Tie as tie
 done :
     (c : tie.After-step)
     → let a = c .before .before .before .before .before .before .before .before .args in
-    StepDone (a .image .now) (stateIn (a .state .now)) (a .word) (a .letters .now) (a .values .now) (c .step .result) (c .step .last .1 .1 .1 .0) (c .step .last .1 .1 .1 .1 .0)
+    StepDone (a .image .now) (stateIn (a .state .now)) (a .word) (a .letters .now) (a .values .now) (c .step .result) (c .step .last .1 .1 .1 .0)
+    (c .step .last .1 .1 .1 .1 .0)
 done c = rw (c .before .before .before .state-in .ensures) at (c .step .ensures)
 
 state-in-requires : tie.Need-state-in-requires
@@ -37,7 +38,8 @@ same-length-3 c = search needs
 returns : tie.Need-returns
 returns c =
     let d = c .before .before .before .before .before .before .before .before .before in
-    step-called (d .before .before .before .before .before .before .before .before .args .state .now) (done d) (c .before .before .before .before .if1 .taken) (c .before .before .put-state .ensures)
+    step-called (d .before .before .before .before .before .before .before .before .args .state .now) (done d)
+    (c .before .before .before .before .if1 .taken) (c .before .before .put-state .ensures)
 
 same-length-4 : tie.Need-same-length-4
 same-length-4 c = search needs

@@ -44,8 +44,11 @@ loop-less c = omega arith
 loop-again : tie.Need-loop-again Inv-loop μ-loop
 loop-again c = let l = c .before .before in
     let a = l .before .before .args in
-    let t = c .token-in in
-    (omega arith, over-next (λ k. tokenIn (a .bytes .now) (a .at + 4 * k)) _ (omega arith) (l .loop .inv .1) (rw (toZ-ofZ (told (t .result) (t .ok))) (t .ensures)))
+    let t = c .token-in in (
+      omega arith,
+      over-next (λ k. tokenIn (a .bytes .now) (a .at + 4 * k)) _ (omega arith) (l .loop .inv .1)
+          (rw (toZ-ofZ (told (t .result) (t .ok))) (t .ensures)),
+    )
 
 add-t13 : tie.Need-add-t13 Inv-loop μ-loop
 add-t13 c = omega arith

@@ -43,8 +43,11 @@ loop-less : tie.Need-loop-less Inv-loop μ-loop
 loop-less c = omega arith
 
 loop-again : tie.Need-loop-again Inv-loop μ-loop
-loop-again c = let l = c .before .before in
-    (omega arith, over-next (λ k. queueIn (l .before .before .before .args .bytes .now) (7524 + 33 * k)) _ (omega arith) (l .loop .inv .1) (c .queue-in .ensures))
+loop-again c = let l = c .before .before in (
+  omega arith,
+  over-next (λ k. queueIn (l .before .before .before .args .bytes .now) (7524 + 33 * k)) _ (omega arith) (l .loop .inv .1)
+      (c .queue-in .ensures),
+)
 
 returns : tie.Need-returns Inv-loop μ-loop
 returns c = let l = c .before in

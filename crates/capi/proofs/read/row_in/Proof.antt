@@ -1,8 +1,7 @@
 -- `capi::read::row_in` meets its contract. The loop's invariant: the first i places are written. Assumes nothing.
-use mathlib.Core.Path.{_≡_, refl, _∙_}
+use mathlib.Core.Path.{_≡_, refl}
 use Prim.Native.Nat.{_-_, _≤_}
 use native.Mathlib.Omega.{arith}
-use lib.ListN.{drop}
 use lib.Seq.{take-at}
 use Rattle.laws.specs.Table.{table, tableOver}
 use Rattle.laws.specs.TableLaws.{length-table, over-next}
@@ -43,8 +42,11 @@ loop-less c = omega arith
 
 loop-again : tie.Need-loop-again Inv-loop μ-loop
 loop-again c = let l = c .before .before in
-    let r = l .before .before in
-    (omega arith, over-next (rowRecord (r .before .before .args .bytes .now)) _ (omega (arith, r .records-read .ensures .0)) (l .loop .inv .1) (c .row-record .ensures))
+    let r = l .before .before in (
+      omega arith,
+      over-next (rowRecord (r .before .before .args .bytes .now)) _ (omega (arith, r .records-read .ensures .0)) (l .loop .inv .1)
+          (c .row-record .ensures),
+    )
 
 returns : tie.Need-returns Inv-loop μ-loop
 unfolding tableOver

@@ -40,8 +40,11 @@ loop-less : tie.Need-loop-less Inv-loop μ-loop
 loop-less c = omega arith
 
 loop-again : tie.Need-loop-again Inv-loop μ-loop
-loop-again c = let l = c .before .before .before .before .before .before in
-    (omega arith, put-field stationBytes (λ k. getD (l .before .before .args .t1) k noStation) (l .loop .inv .1) (c .before .before .put-station .ensures))
+loop-again c = let l = c .before .before .before .before .before .before in (
+  omega arith,
+  put-field stationBytes (λ k. getD (l .before .before .args .t1) k noStation) (l .loop .inv .1)
+      (c .before .before .put-station .ensures),
+)
 
 same-length : tie.Need-same-length Inv-loop μ-loop
 same-length c = put-long (c .before .loop .inv .1)

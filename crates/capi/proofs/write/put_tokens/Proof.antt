@@ -47,8 +47,11 @@ loop-less c = omega arith
 loop-again : tie.Need-loop-again Inv-loop μ-loop
 loop-again c = let l = c .before .before .before .before .before .before in
     let a = l .before .before .args in
-    let f = told (getD (a .tokens .now) (l .loop .i) (pos 0)) (c .before .before .before .before .put-token-arg .given) in
-    (omega arith, put-field tokenBytes (λ k. getD (a .tokens .now) k (pos 0)) (l .loop .inv .1) (rw (toZ-ofZ f) at (c .before .before .put-token .ensures)))
+    let f = told (getD (a .tokens .now) (l .loop .i) (pos 0)) (c .before .before .before .before .put-token-arg .given) in (
+      omega arith,
+      put-field tokenBytes (λ k. getD (a .tokens .now) k (pos 0)) (l .loop .inv .1)
+          (rw (toZ-ofZ f) at (c .before .before .put-token .ensures)),
+    )
 
 same-length : tie.Need-same-length Inv-loop μ-loop
 same-length c = put-long (c .before .loop .inv .1)
