@@ -79,51 +79,46 @@ pub fn same_number(cells: &mut Cells, name: u64, number: u8, second: u64) {
     }
 }
 
-// The field that a place of a picture belongs to.
-fn differ_state(cells: &mut Cells, place: u64, engine: u64, second: u64) {
+// A difference at a place of a picture, under the name of the field: of nodes, and of channels.
+fn differ_node(cells: &mut Cells, place: u64, engine: u64, second: u64) {
     if place < picture::VALUE {
         differ(cells, b"cycle count", place, engine, second);
     } else if place < picture::FIRED {
-        differ(
-            cells,
-            b"value of node",
-            place - picture::VALUE,
-            engine,
-            second,
-        );
-    } else if place < picture::PENDING {
-        differ(
-            cells,
-            b"firings of node",
-            place - picture::FIRED,
-            engine,
-            second,
-        );
-    } else if place < picture::QUEUES {
-        differ(
-            cells,
-            b"mark of channel",
-            place - picture::PENDING,
-            engine,
-            second,
-        );
-    } else if place < picture::STATIONS {
-        differ(
-            cells,
-            b"queue place",
-            place - picture::QUEUES,
-            engine,
-            second,
-        );
+        let n = place - picture::VALUE;
+        differ(cells, b"value of node", n, engine, second);
     } else {
-        differ(
-            cells,
-            b"station place",
-            place - picture::STATIONS,
-            engine,
-            second,
-        );
+        let n = place - picture::FIRED;
+        differ(cells, b"firings of node", n, engine, second);
     }
+}
+
+fn differ_channel(cells: &mut Cells, place: u64, engine: u64, second: u64) {
+    if place < picture::QUEUES {
+        let c = less(place, picture::PENDING);
+        differ(cells, b"mark of channel", c, engine, second);
+    } else if place < picture::STATIONS {
+        let i = place - picture::QUEUES;
+        differ(cells, b"queue place", i, engine, second);
+    } else {
+        let i = place - picture::STATIONS;
+        differ(cells, b"station place", i, engine, second);
+    }
+}
+
+fn differ_state(cells: &mut Cells, place: u64, engine: u64, second: u64) {
+    if place < picture::PENDING {
+        differ_node(cells, place, engine, second);
+    } else {
+        differ_channel(cells, place, engine, second);
+    }
+}
+
+// What a lies above b, or 0.
+fn less(a: u64, b: u64) -> u64 {
+    if a < b {
+        return 0;
+    }
+    a - b
 }
 
 // The engine's state, as the picture has it, and the second simulator's.

@@ -13,7 +13,7 @@ use state::State;
 
 // ---- what a field is changed to
 
-pub fn some_value(face: u64) -> i32 {
+fn some_value(face: u64) -> i32 {
     match face {
         0 => 0,
         1 => 1,

@@ -1,6 +1,6 @@
 // Compares the engine, the strict run and the judge with a second simulator. That one is written from
-// the scope paper alone, and not from the engine: `chip` has its layout, `turn` its cycle, `verdict`
-// its numbers and `second` its calls. First the edges of the paper that are not starred; then netlists
+// the scope paper, in another layout and another order of work: `chip` has its layout, `turn` its cycle,
+// `verdict` its numbers and `second` its calls. First the paper's edges that are not starred; then netlists
 // at random, a line a group. A group's netlists are counted from 0, and a difference says in which
 // one, and where, it was found.
 mod cells;
