@@ -1,6 +1,6 @@
 -- What is written is read back: the bytes of a state are that state. So whoever hands a call the bytes that the call before has left goes on from the
--- state that it made: fresh states, steps and runs on bytes are those of `state` and `engine`, call by call, and what the token rule says of lists of
--- these holds of lists of those.
+-- state that it made: fresh states, steps and runs on bytes are those of `state` and `engine`, call by call. What `Typed` asks holds of every state
+-- that a function is handed or answers, by its declared type.
 use mathlib.Core.Bool.{Bool, true, false}
 use mathlib.Core.List.{List}
 use mathlib.Core.Logic.{⊎-elim}
@@ -21,7 +21,7 @@ use Rattle.engine.specs.Done.{StepDone}
 use Rattle.capi.specs.Bytes.{stateBytes, stateLength, stateIn}
 use Rattle.capi.specs.BytesLaws.{state-long}
 use Rattle.capi.specs.Calls.{freshNumber, freshOver, stateLeft, FreshCall, StepCall, RunCall}
-use Rattle.capi.specs.CallsLaws.{all-stored}
+use Rattle.capi.specs.CallsLaws.{state-stored}
 use Rattle.capi.specs.Typed.{Typed}
 use Rattle.capi.specs.BackLaws.{places-back, run-still}
 
@@ -81,5 +81,5 @@ fresh-bytes old e {img} d = (
       (λ (q : eqb (judge img) 0 ≡ true). rw (q, e) (sym (eqb-true (judge img) 0 q)))
       (λ (q : eqb (judge img) 0 ≡ false). rw q)
       (true-or-false (eqb (judge img) 0)),
-  all-stored old (freshAnswer img .state) e (rw e at (d .over)),
+  state-stored old (freshAnswer img .state) e (rw e at (d .over)),
 )

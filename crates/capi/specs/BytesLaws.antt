@@ -1,12 +1,12 @@
 -- Laws of bytes: what the writers and the readers do part by part. Assumes nothing.
 use mathlib.Core.Bool.{true, false, true≢false}
-use mathlib.Core.List.{List, [], _∷_, flatMap}
+use mathlib.Core.List.{List, [], _∷_, _++_, append-nil, flatMap}
 use mathlib.Core.Path.{_≡_, refl, _∙_}
-use Prim.Native.Nat.{ℕ, suc, _+_, _*_, _-_, _^_, _<_}
+use Prim.Native.Nat.{ℕ, suc, _+_, _*_, _-_, _^_, _<_, _≤_}
 use native.Mathlib.Omega.{arith}
 use borrow.Author.Tests.{ltb-true}
 use lib.IntN.{ℤ, pos, negsuc, _+ℤ_}
-use lib.ListN.{length, getD, set, length-append}
+use lib.ListN.{length, getD, set, drop, length-append, drop-of-length-le}
 use lib.Signed.{mag, ltZ}
 use Rattle.laws.specs.SignedLaws.{sub-above}
 use Rattle.laws.specs.Table.{table}
@@ -84,6 +84,10 @@ unfolding queueBytes
 queue-long q =
     length-append (each tokenBytes (λ i. getD (q .tokens) i (pos 0)) 8) (q .count ∷ [])
     ∙ rw (each-long tokenBytes 4 token-long (λ i. getD (q .tokens) i (pos 0)) 8)
+
+-- what is stored over as many bytes, or fewer, is all of them
+pub all-stored : (bytes text : List ℕ) {left : List ℕ} (n : ℕ) → length bytes ≤ n → left ≡ text ++ drop n bytes → left ≡ text
+all-stored bytes text n h q = q ∙ rw (drop-of-length-le bytes h, append-nil)
 
 -- ---- a state, part by part
 pub state-long : (s : State) → length (stateBytes s) ≡ stateLength

@@ -1,6 +1,5 @@
 -- What the calls for C have done: the number that each answers, what it stores through its last pointers, and what the lent bytes and arrays hold
--- after
--- it. Each contract ensures its record as it stands here. They are the answers of the crates below, on the state or the records that bytes are.
+-- after it. Each contract ensures its record as it stands here. They are the answers of the crates below, on the state or the records that bytes are.
 use mathlib.Core.Bool.{Bool, not}
 use mathlib.Core.List.{List, _++_, flatMap}
 use mathlib.Core.Path.{_≡_}

@@ -1,6 +1,6 @@
 -- What each way out of the calls has done. Assumes nothing.
 use mathlib.Core.Bool.{true, false, true≢false}
-use mathlib.Core.List.{List, _++_, append-nil}
+use mathlib.Core.List.{List, _++_}
 use mathlib.Core.Logic.{⊎-elim}
 use mathlib.Core.Path.{_≡_, sym, ap, _∙_}
 use Prim.Native.Nat.{ℕ, _≤_, _<_}
@@ -9,7 +9,7 @@ use native.Mathlib.Omega.{arith}
 use borrow.Author.Tests.{eqb-true, eqb-false, ne-eqb, lt-ltb, le-ltb}
 use lib.Dec.{eqb}
 use lib.IntN.{ℤ}
-use lib.ListN.{length, drop, drop-of-length-le}
+use lib.ListN.{length, drop}
 use Rattle.laws.specs.Cases.{true-or-false}
 use Rattle.netlist.specs.Judge.{judge}
 use Rattle.state.specs.declared.Fresh.{Fresh}
@@ -29,6 +29,7 @@ use Rattle.tracer.specs.declared.Lined.{Lined}
 use Rattle.tracer.specs.Done.{lineAnswer, LineDone, ClosingDone}
 use Rattle.tracer.specs.DoneLaws.{line-made}
 use Rattle.capi.specs.Bytes.{stateBytes, stateLength, stateIn, noState}
+use Rattle.capi.specs.BytesLaws.{all-stored}
 use Rattle.capi.specs.Calls.{freshNumber, freshOver, stateLeft, FreshCall, StepCall, RunCall, LineCall, ClosingCall, TextCall}
 
 -- ---- bytes of another length than a state's
@@ -46,9 +47,9 @@ module _ (img bytes : List ℕ) where
       at (no n) = absurd (true≢false (sym (state-ok img (stateIn bytes) e .1) ∙ other-length n))
 
 -- a state that is stored over the bytes of another is all of them
-pub all-stored :
+pub state-stored :
     (bytes : List ℕ) {left : List ℕ} (s : State) → length bytes ≡ stateLength → left ≡ stateBytes s ++ drop stateLength bytes → left ≡ stateBytes s
-all-stored bytes s e q = let none : length bytes ≤ stateLength = omega (arith, e) in q ∙ rw (drop-of-length-le bytes none, append-nil)
+state-stored bytes s e q = all-stored bytes (stateBytes s) stateLength (omega (arith, e)) q
 
 -- ---- a fresh state
 module _ (old : List ℕ) {img : List ℕ} {answer : Fresh} (d : FreshDone img answer) where
@@ -104,7 +105,7 @@ module _
       let t : answer .state ≡ stateAfter img word (stateIn bytes) = ap (λ (a : Stepped). a .state) (d .answered) ∙ rw (sym step-number ∙ z) in
       record {
         numbered = step-number;
-        changed = all-stored bytes (answer .state) (step-sized z) e ∙ rw (z, t);
+        changed = state-stored bytes (answer .state) (step-sized z) e ∙ rw (z, t);
         lettered = d .lettered;
         valued = d .valued;
       }
@@ -130,7 +131,7 @@ module _ (bytes : List ℕ) {img words : List ℕ} {answer : Ran} (d : RunDone i
       record {
         numbered = ap (λ (a : Ran). a .number) (d .answered);
         counted = ap (λ (a : Ran). a .steps) (d .answered);
-        changed = all-stored bytes (answer .state) (run-sized h) e ∙ rw (ne-eqb (answer .steps) 0 h)
+        changed = state-stored bytes (answer .state) (run-sized h) e ∙ rw (ne-eqb (answer .steps) 0 h)
             (ap (λ (a : Ran). stateBytes (a .state)) (d .answered));
       }
 
@@ -166,7 +167,7 @@ module _
       record {
         numbered = line-number;
         measured = ap (λ (a : Lined). a .length) (d .answered);
-        changed = all-stored bytes (answer .state) (line-sized z) e ∙ rw (z, line-made d z .1);
+        changed = state-stored bytes (answer .state) (line-sized z) e ∙ rw (z, line-made d z .1);
         over = d .over;
       }
 

@@ -1,6 +1,5 @@
 -- The definitions here, computed: tokens at the ends of their range; figure 4's state after five cycles, and one with stations and tokens below 0
--- after
--- twelve; bytes of another length; rows of whole records and others.
+-- after twelve; bytes of another length; rows of whole records and others.
 use mathlib.Core.List.{List, [], _∷_, _++_, map, flatMap}
 use mathlib.Core.Path.{_≡_, refl}
 use Prim.Native.Nat.{ℕ, _+_}

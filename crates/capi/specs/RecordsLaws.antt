@@ -9,7 +9,7 @@ use native.Mathlib.Omega.{arith}
 use borrow.Author.Tests.{eqb-true, eqb-false, ne-eqb, leb-true, ltb-false, lt-ltb, le-ltb}
 use lib.Dec.{eqb, leb, ltb}
 use lib.IntN.{ℤ}
-use lib.ListN.{length, getD, take, drop, length-append, drop-of-length-le}
+use lib.ListN.{length, getD, take, drop, length-append}
 use lib.Seq.{take-at}
 use Rattle.laws.specs.BelowLaws.{all-at}
 use Rattle.laws.specs.Cases.{true-or-false, lt-or-ge, or-left, or-right}
@@ -26,6 +26,7 @@ use Rattle.bench.specs.BenchLaws.{bench-long, length-bench, station-done}
 use Rattle.bench.specs.ByValue.{stationBenched, rowBenched}
 use Rattle.bench.specs.Kept.{accepted-long, accepted-fits}
 use Rattle.capi.specs.Bytes.{each, stationBytes, noRecord, recordIn, rowRecord, recordCount, rowIn}
+use Rattle.capi.specs.BytesLaws.{all-stored}
 use Rattle.capi.specs.Calls.{BenchCall}
 
 -- a bench answers its number
@@ -41,10 +42,6 @@ answer-number row valid value stop =
 no-record-fits : fits noRecord ≡ false
 unfolding fits noRecord
 no-record-fits = refl
-
--- records that are stored over the bytes of others are all of them
-all-stored : (bytes text : List ℕ) {left : List ℕ} (n : ℕ) → length bytes ≤ n → left ≡ text ++ drop n bytes → left ≡ text
-all-stored bytes text n h q = q ∙ rw (drop-of-length-le bytes h, append-nil)
 
 -- the first elements of a list, read one by one
 first-own : {A : Type 0} (l : List A) (d : A) (n : ℕ) → n ≤ length l → table (λ i. getD l i d) n ≡ take n l
