@@ -13,69 +13,69 @@ use crate::cells::plus;
 use crate::cells::put;
 
 // What stands where. Single numbers:
-pub const NODES: u64 = 0;
+pub(crate) const NODES: u64 = 0;
 
-pub const CHANNELS: u64 = 1;
+pub(crate) const CHANNELS: u64 = 1;
 
-pub const CYCLES: u64 = 2;
+pub(crate) const CYCLES: u64 = 2;
 // the number and the steps of the last call,
-pub const NUMBER: u64 = 3;
+pub(crate) const NUMBER: u64 = 3;
 
-pub const STEPS: u64 = 4;
+pub(crate) const STEPS: u64 = 4;
 // a number a node: whether it may fire comes last,
-pub const KIND: u64 = 64;
+pub(crate) const KIND: u64 = 64;
 
-pub const PARAMETER: u64 = 128;
+pub(crate) const PARAMETER: u64 = 128;
 
-pub const VALUE: u64 = 192;
+pub(crate) const VALUE: u64 = 192;
 
-pub const FIRED: u64 = 256;
+pub(crate) const FIRED: u64 = 256;
 
-pub const FREE: u64 = 320;
+pub(crate) const FREE: u64 = 320;
 // the channel that feeds each port, three a node,
-pub const FEED: u64 = 384;
+pub(crate) const FEED: u64 = 384;
 // a number a channel,
-pub const FROM: u64 = 576;
+pub(crate) const FROM: u64 = 576;
 
-pub const TO: u64 = 672;
+pub(crate) const TO: u64 = 672;
 
-pub const PORT: u64 = 768;
+pub(crate) const PORT: u64 = 768;
 
-pub const STATIONS: u64 = 864;
+pub(crate) const STATIONS: u64 = 864;
 
-pub const DEPTH: u64 = 960;
+pub(crate) const DEPTH: u64 = 960;
 // where the ring's oldest token stands, and how many there are,
-pub const HEAD: u64 = 1056;
+pub(crate) const HEAD: u64 = 1056;
 
-pub const HELD: u64 = 1152;
+pub(crate) const HELD: u64 = 1152;
 // the last cycle's letter and value,
-pub const LETTER: u64 = 1248;
+pub(crate) const LETTER: u64 = 1248;
 
-pub const SHOWN: u64 = 1344;
+pub(crate) const SHOWN: u64 = 1344;
 // how many tokens have arrived since the fresh state,
-pub const ARRIVED: u64 = 1440;
+pub(crate) const ARRIVED: u64 = 1440;
 // ten counts a channel: pending, stations 1 to 8, queue,
-pub const COUNT: u64 = 1536;
+pub(crate) const COUNT: u64 = 1536;
 // a ring of 32 tokens a channel,
-pub const RING: u64 = 2560;
+pub(crate) const RING: u64 = 2560;
 // and the strict values of 64 cycles, 64 nodes each.
-pub const HISTORY: u64 = 5632;
+pub(crate) const HISTORY: u64 = 5632;
 
 // The places of a channel where tokens are counted, from the front: 0 is the pending token's, then
 // the stations', and this is the queue's.
-pub const QUEUE: u64 = 9;
+pub(crate) const QUEUE: u64 = 9;
 
 // ---- places and tokens of a channel
 
-pub fn count_at(cells: &Cells, c: u64, k: u64) -> u64 {
+pub(crate) fn count_at(cells: &Cells, c: u64, k: u64) -> u64 {
     get(cells, COUNT, in_tens(c, k))
 }
 
-pub fn set_count(cells: &mut Cells, c: u64, k: u64, count: u64) {
+pub(crate) fn set_count(cells: &mut Cells, c: u64, k: u64, count: u64) {
     put(cells, COUNT, in_tens(c, k), count);
 }
 
-pub fn clear_ring(cells: &mut Cells, c: u64) {
+pub(crate) fn clear_ring(cells: &mut Cells, c: u64) {
     put(cells, HEAD, c, 0);
     put(cells, HELD, c, 0);
 }
@@ -85,26 +85,26 @@ fn ring_place(cells: &Cells, c: u64, k: u64) -> u64 {
 }
 
 // The token that has k older ones before it on the channel.
-pub fn token(cells: &Cells, c: u64, k: u64) -> u64 {
+pub(crate) fn token(cells: &Cells, c: u64, k: u64) -> u64 {
     get(cells, RING, ring_place(cells, c, k))
 }
 
 // A new youngest token.
-pub fn enter(cells: &mut Cells, c: u64, value: u64) {
+pub(crate) fn enter(cells: &mut Cells, c: u64, value: u64) {
     let held = get(cells, HELD, c);
     let at = ring_place(cells, c, held);
     put(cells, RING, at, value);
     put(cells, HELD, c, plus(held, 1));
 }
 
-pub fn enter_if(cells: &mut Cells, c: u64, value: u64, there: bool) {
+pub(crate) fn enter_if(cells: &mut Cells, c: u64, value: u64, there: bool) {
     if there {
         enter(cells, c, value);
     }
 }
 
 // Takes the oldest token.
-pub fn leave(cells: &mut Cells, c: u64) -> u64 {
+pub(crate) fn leave(cells: &mut Cells, c: u64) -> u64 {
     let oldest = token(cells, c, 0);
     let head = (get(cells, HEAD, c) % 32 + 1) % 32;
     let held = less_one(get(cells, HELD, c));
@@ -116,7 +116,7 @@ pub fn leave(cells: &mut Cells, c: u64) -> u64 {
 // ---- the netlist
 
 // How many inputs a kind has.
-pub fn inputs(kind: u64) -> u64 {
+pub(crate) fn inputs(kind: u64) -> u64 {
     match kind {
         2 | 3 | 4 | 5 => 1,
         6 | 7 | 8 => 2,
@@ -126,19 +126,19 @@ pub fn inputs(kind: u64) -> u64 {
 }
 
 // Where the image's four arrays begin: kinds at 2, then parameters, wires and depths.
-pub fn parameter_place(nodes: u64, n: u64) -> u64 {
+pub(crate) fn parameter_place(nodes: u64, n: u64) -> u64 {
     2 + nodes % 256 + 4 * (n % 256)
 }
 
-pub fn wire_place(nodes: u64, c: u64) -> u64 {
+pub(crate) fn wire_place(nodes: u64, c: u64) -> u64 {
     2 + 5 * (nodes % 256) + 3 * (c % 256)
 }
 
-pub fn depth_place(nodes: u64, channels: u64, c: u64) -> u64 {
+pub(crate) fn depth_place(nodes: u64, channels: u64, c: u64) -> u64 {
     2 + 5 * (nodes % 256) + 3 * (channels % 256) + 2 * (c % 256)
 }
 
-pub fn image_length(nodes: u64, channels: u64) -> u64 {
+pub(crate) fn image_length(nodes: u64, channels: u64) -> u64 {
     2 + 5 * (nodes % 256) + 5 * (channels % 256)
 }
 
@@ -153,7 +153,7 @@ fn lifted(image: &[u8], at: u64, k: u64, unit: u64) -> u64 {
     }
 }
 
-pub fn parameter(image: &[u8], nodes: u64, n: u64) -> u64 {
+pub(crate) fn parameter(image: &[u8], nodes: u64, n: u64) -> u64 {
     let at = parameter_place(nodes, n);
     let low = plus(lifted(image, at, 0, 0), lifted(image, at, 1, 1));
     let high = plus(lifted(image, at, 2, 2), lifted(image, at, 3, 3));
@@ -209,7 +209,7 @@ fn decode_channels(image: &[u8], cells: &mut Cells, nodes: u64, channels: u64) {
 }
 
 // Reads an accepted image.
-pub fn decode(image: &[u8], cells: &mut Cells) {
+pub(crate) fn decode(image: &[u8], cells: &mut Cells) {
     let nodes = byte(image, 0);
     let channels = byte(image, 1);
     put(cells, NODES, 0, nodes);

@@ -14,21 +14,21 @@ use libc::STDOUT_FILENO;
 use state::State;
 
 // What is counted: all but the last two anew in each group. Places of the array:
-pub const NETLISTS: u64 = 9728;
+pub(crate) const NETLISTS: u64 = 9728;
 
-pub const STEPS: u64 = 9729;
+pub(crate) const STEPS: u64 = 9729;
 
-pub const RUNS: u64 = 9730;
+pub(crate) const RUNS: u64 = 9730;
 
-pub const REFUSALS: u64 = 9731;
+pub(crate) const REFUSALS: u64 = 9731;
 
-pub const STRICT: u64 = 9732;
+pub(crate) const STRICT: u64 = 9732;
 
-pub const DIFFERENCES: u64 = 9733;
+pub(crate) const DIFFERENCES: u64 = 9733;
 // the cycle count of the last call's state,
 const CYCLE: u64 = 9734;
 // and how often each number was answered.
-pub const NUMBERS: u64 = 9760;
+pub(crate) const NUMBERS: u64 = 9760;
 
 // How many places the lent arrays have, and what stands in them before a call.
 type Letters = [u8; 100];
@@ -61,14 +61,14 @@ fn differ(cells: &mut Cells, field: &[u8], place: u64, engine: u64, second: u64)
     crate::cells::count(cells, DIFFERENCES, 0);
 }
 
-pub fn same(cells: &mut Cells, field: &[u8], place: u64, engine: u64, second: u64) {
+pub(crate) fn same(cells: &mut Cells, field: &[u8], place: u64, engine: u64, second: u64) {
     if engine != second {
         differ(cells, field, place, engine, second);
     }
 }
 
 // A call's number, which is counted as a refusal or under the name of the call.
-pub fn same_number(cells: &mut Cells, name: u64, number: u8, second: u64) {
+pub(crate) fn same_number(cells: &mut Cells, name: u64, number: u8, second: u64) {
     let engine = number as u64;
     same(cells, b"number", 0, engine, second);
     crate::cells::count(cells, NUMBERS, engine);
@@ -122,7 +122,7 @@ fn less(a: u64, b: u64) -> u64 {
 }
 
 // The engine's state, as the picture has it, and the second simulator's.
-pub fn same_state(cells: &mut Cells) {
+pub(crate) fn same_state(cells: &mut Cells) {
     let place = picture::first_difference(cells);
     if place < picture::SIZE {
         let engine = picture::seen(cells, place, 0);
@@ -133,14 +133,14 @@ pub fn same_state(cells: &mut Cells) {
 
 // ---- the judge and the fresh state
 
-pub fn judge(cells: &mut Cells, image: &[u8]) -> u8 {
+pub(crate) fn judge(cells: &mut Cells, image: &[u8]) -> u8 {
     let number = netlist::judge(image);
     let second = verdict::judge(cells, image);
     same(cells, b"judge", 0, number as u64, second);
     number
 }
 
-pub fn fresh(cells: &mut Cells, image: &[u8]) -> State {
+pub(crate) fn fresh(cells: &mut Cells, image: &[u8]) -> State {
     let fresh = State::fresh(image);
     let number = second::fresh(image, cells);
     let state = fresh.state;
@@ -154,7 +154,7 @@ pub fn fresh(cells: &mut Cells, image: &[u8]) -> State {
 // ---- steps
 
 // How many places of the two arrays are lent.
-pub struct Rooms {
+pub(crate) struct Rooms {
     pub letters: usize,
     pub values: usize,
 }
@@ -212,7 +212,13 @@ fn written_if(cells: &Cells, number: u64) -> u64 {
 }
 
 // A step of both; answers the engine's state.
-pub fn step(cells: &mut Cells, image: &[u8], state: State, word: u64, rooms: Rooms) -> State {
+pub(crate) fn step(
+    cells: &mut Cells,
+    image: &[u8],
+    state: State,
+    word: u64,
+    rooms: Rooms,
+) -> State {
     let mut letters = [46u8; 100];
     let mut values = [46i32; 100];
     let room = second::room(rooms.letters, rooms.values);
@@ -230,7 +236,7 @@ pub fn step(cells: &mut Cells, image: &[u8], state: State, word: u64, rooms: Roo
 
 // ---- runs
 
-pub fn run(cells: &mut Cells, image: &[u8], state: State, words: &[u64]) {
+pub(crate) fn run(cells: &mut Cells, image: &[u8], state: State, words: &[u64]) {
     picture::draw(cells, state);
     put(cells, CYCLE, 0, picture::seen(cells, picture::CYCLES, 0));
     let number = second::run(image, cells, words);
@@ -260,7 +266,7 @@ fn same_shown(cells: &mut Cells, n: u64) {
     );
 }
 
-pub fn shown(cells: &mut Cells) {
+pub(crate) fn shown(cells: &mut Cells) {
     let mut left = get(cells, chip::NODES, 0);
     while 0 < left {
         left -= 1;
@@ -269,7 +275,7 @@ pub fn shown(cells: &mut Cells) {
 }
 
 // That a state is the one that the last run ended with.
-pub fn run_end(cells: &mut Cells, state: State) {
+pub(crate) fn run_end(cells: &mut Cells, state: State) {
     picture::draw(cells, state);
     same_state(cells);
 }
@@ -307,7 +313,7 @@ fn strict_written(image: &[u8], cells: &mut Cells, cycle: u64, number: u64) -> u
     get(cells, chip::NODES, 0)
 }
 
-pub fn strict(cells: &mut Cells, image: &[u8], cycle: u32, room: usize) {
+pub(crate) fn strict(cells: &mut Cells, image: &[u8], cycle: u32, room: usize) {
     let mut values = [46i32; 100];
     let judged = verdict::judge(cells, image);
     let nodes = crate::cells::byte(image, 0);
@@ -338,7 +344,7 @@ fn arrive(cells: &mut Cells, c: u64) {
     }
 }
 
-pub fn arrivals(cells: &mut Cells) {
+pub(crate) fn arrivals(cells: &mut Cells) {
     let mut left = get(cells, chip::CHANNELS, 0);
     while 0 < left {
         left -= 1;

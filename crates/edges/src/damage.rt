@@ -26,7 +26,7 @@ fn some_value(face: u64) -> i32 {
     }
 }
 
-pub fn roll_value(cells: &mut Cells) -> i32 {
+pub(crate) fn roll_value(cells: &mut Cells) -> i32 {
     some_value(roll(cells, 8))
 }
 
@@ -81,7 +81,7 @@ fn roll_station(cells: &mut Cells) -> usize {
 
 // ---- states
 
-pub fn with_cycles(state: State, cycles: u32) -> State {
+pub(crate) fn with_cycles(state: State, cycles: u32) -> State {
     let mut changed = state;
     changed.cycles = cycles;
     changed
@@ -187,7 +187,7 @@ fn count_changed(state: State, cells: &mut Cells, face: u64) -> State {
 }
 
 // The state with one field changed.
-pub fn changed_state(state: State, cells: &mut Cells) -> State {
+pub(crate) fn changed_state(state: State, cells: &mut Cells) -> State {
     let face = roll(cells, 8);
     if face < 3 {
         return token_changed(state, cells, face);
@@ -268,7 +268,7 @@ fn spoil(image: &mut Bytes, cells: &mut Cells, length: u64) -> u64 {
 }
 
 // A changed copy of an image; answers its length.
-pub fn spoiled(image: &[u8], cells: &mut Cells, copied: &mut Bytes) -> u64 {
+pub(crate) fn spoiled(image: &[u8], cells: &mut Cells, copied: &mut Bytes) -> u64 {
     copy(image, copied);
     spoil(copied, cells, image.len() as u64)
 }

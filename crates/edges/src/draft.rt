@@ -8,17 +8,17 @@ use crate::cells::put_byte;
 use crate::chip;
 
 // The shapes of netlists.
-pub const RINGS: u64 = 0;
+pub(crate) const RINGS: u64 = 0;
 
-pub const RECONVERGENT: u64 = 1;
+pub(crate) const RECONVERGENT: u64 = 1;
 
-pub const SELF_LOOPS: u64 = 2;
+pub(crate) const SELF_LOOPS: u64 = 2;
 
-pub const FAN_OUT: u64 = 3;
+pub(crate) const FAN_OUT: u64 = 3;
 
-pub const MIXED: u64 = 4;
+pub(crate) const MIXED: u64 = 4;
 
-pub const LARGE: u64 = 5;
+pub(crate) const LARGE: u64 = 5;
 
 // What a draft has: the dice, the shape, N and C, the next channel, all stations so far, and by how
 // much the channels' order is turned.
@@ -26,9 +26,9 @@ const DICE: u64 = 9800;
 
 const SHAPE: u64 = 9801;
 
-pub const NODES: u64 = 9802;
+pub(crate) const NODES: u64 = 9802;
 
-pub const CHANNELS: u64 = 9803;
+pub(crate) const CHANNELS: u64 = 9803;
 
 const NEXT: u64 = 9804;
 
@@ -38,12 +38,12 @@ const SHIFT: u64 = 9806;
 
 // ---- dice
 
-pub fn seed(cells: &mut Cells, number: u64) {
+pub(crate) fn seed(cells: &mut Cells, number: u64) {
     put(cells, DICE, 0, number);
 }
 
 // A number below sides, which are at most 32768.
-pub fn roll(cells: &mut Cells, sides: u64) -> u64 {
+pub(crate) fn roll(cells: &mut Cells, sides: u64) -> u64 {
     let thrown = (get(cells, DICE, 0) % 2147483648 * 1103515245 + 12345) % 2147483648;
     put(cells, DICE, 0, thrown);
     if sides == 0 {
@@ -52,12 +52,12 @@ pub fn roll(cells: &mut Cells, sides: u64) -> u64 {
     thrown / 65536 % sides
 }
 
-pub fn one_in(cells: &mut Cells, sides: u64) -> bool {
+pub(crate) fn one_in(cells: &mut Cells, sides: u64) -> bool {
     roll(cells, sides) == 0
 }
 
 // 64 bits.
-pub fn roll_word(cells: &mut Cells) -> u64 {
+pub(crate) fn roll_word(cells: &mut Cells) -> u64 {
     let a = roll(cells, 32768) % 32768;
     let b = roll(cells, 32768) % 32768;
     let c = roll(cells, 32768) % 32768;
@@ -67,7 +67,7 @@ pub fn roll_word(cells: &mut Cells) -> u64 {
 }
 
 // A value's bits: small, at the ends of the range, or any.
-pub fn roll_value(cells: &mut Cells) -> u64 {
+pub(crate) fn roll_value(cells: &mut Cells) -> u64 {
     let face = roll(cells, 8);
     match face {
         0 => 2147483647,
@@ -243,7 +243,7 @@ fn draft_channels(image: &mut Bytes, cells: &mut Cells) {
 }
 
 // A netlist of a shape; answers the image's length.
-pub fn netlist(image: &mut Bytes, cells: &mut Cells, shape: u64) -> u64 {
+pub(crate) fn netlist(image: &mut Bytes, cells: &mut Cells, shape: u64) -> u64 {
     let nodes = roll_nodes(cells, shape);
     let shift = roll(cells, 96);
     put(cells, SHAPE, 0, shape);

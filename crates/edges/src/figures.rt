@@ -103,7 +103,7 @@ fn judge_limit(cells: &mut Cells, label: &[u8], image: &Bytes, length: u64) {
     }
 }
 
-pub fn limits(cells: &mut Cells) {
+pub(crate) fn limits(cells: &mut Cells) {
     limit(cells, b"64 nodes, 96 channels", 64, 96, 0);
     limit(cells, b"65 nodes", 65, 96, 0);
     limit(cells, b"97 channels", 64, 97, 0);
@@ -133,7 +133,7 @@ fn bench_cycle(cells: &mut Cells, station: Station, coming: i32, stop: bool) -> 
     after
 }
 
-pub fn table1(cells: &mut Cells) {
+pub(crate) fn table1(cells: &mut Cells) {
     let mut station = Station::empty();
     print(b"table 1:");
     for t in 0..10 {
@@ -210,7 +210,7 @@ fn figure4_cycles(cells: &mut Cells, image: &[u8], words: &[u8; 11]) {
     print_fired(state);
 }
 
-pub fn figure4(cells: &mut Cells) {
+pub(crate) fn figure4(cells: &mut Cells) {
     let image =
         b"\x05\x04\x01\x01\x06\x02\x02\x0a\0\0\0\x64\0\0\0\0\0\0\0\0\0\0\0\0\0\0\0\0\x02\0\x01\x02\x01\x02\x03\0\x02\x04\0\0\x02\0\x02\0\x01\0\x01";
     let words = b"\x01\0\0\x10\0\0\x03\x03\x08\0\0";

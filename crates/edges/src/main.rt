@@ -23,7 +23,7 @@ use libc::STDOUT_FILENO;
 
 // ---- printing
 
-pub fn print_count(count: u64, name: &[u8]) {
+pub(crate) fn print_count(count: u64, name: &[u8]) {
     io::print_decimal(STDOUT_FILENO, count);
     io::write_all(STDOUT_FILENO, name);
 }
@@ -41,7 +41,7 @@ fn print_group(label: &[u8], cells: &Cells) {
 }
 
 // A new group; how often each number was answered is counted over all groups.
-pub fn clear_counts(cells: &mut Cells) {
+pub(crate) fn clear_counts(cells: &mut Cells) {
     for i in 0..32 {
         cells::put(cells, compare::NETLISTS, i, 0);
     }

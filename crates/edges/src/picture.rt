@@ -20,28 +20,28 @@ use state::Node;
 use state::State;
 
 // How many numbers a picture has.
-pub const SIZE: u64 = 3456;
+pub(crate) const SIZE: u64 = 3456;
 
 // What stands where: the cycle count, a number a node, a number a channel, nine a queue (its count
 // first), and three a station (its count first).
-pub const CYCLES: u64 = 0;
+pub(crate) const CYCLES: u64 = 0;
 
-pub const VALUE: u64 = 64;
+pub(crate) const VALUE: u64 = 64;
 
-pub const FIRED: u64 = 128;
+pub(crate) const FIRED: u64 = 128;
 
-pub const PENDING: u64 = 192;
+pub(crate) const PENDING: u64 = 192;
 
-pub const QUEUES: u64 = 288;
+pub(crate) const QUEUES: u64 = 288;
 
-pub const STATIONS: u64 = 1152;
+pub(crate) const STATIONS: u64 = 1152;
 
 // Where the pictures are: of the engine's state, and of the second simulator's.
 const SEEN: u64 = 10240;
 
 const KEPT: u64 = 13696;
 
-pub fn seen(cells: &Cells, base: u64, i: u64) -> u64 {
+pub(crate) fn seen(cells: &Cells, base: u64, i: u64) -> u64 {
     get(cells, plus(SEEN, base), i)
 }
 
@@ -49,7 +49,7 @@ fn put_seen(cells: &mut Cells, base: u64, i: u64, number: u64) {
     put(cells, plus(SEEN, base), i, number);
 }
 
-pub fn kept(cells: &Cells, base: u64, i: u64) -> u64 {
+pub(crate) fn kept(cells: &Cells, base: u64, i: u64) -> u64 {
     get(cells, plus(KEPT, base), i)
 }
 
@@ -68,7 +68,7 @@ fn draw_mark(cells: &mut Cells, c: usize, mark: u8) {
     put_seen(cells, PENDING, c as u64, mark as u64);
 }
 
-pub fn draw_station(cells: &mut Cells, k: usize, station: Station) {
+pub(crate) fn draw_station(cells: &mut Cells, k: usize, station: Station) {
     let first = station.tokens[0];
     let second = station.tokens[1];
     put_seen(
@@ -122,7 +122,7 @@ fn draw_queues(cells: &mut Cells, state: State) {
     }
 }
 
-pub fn draw(cells: &mut Cells, state: State) {
+pub(crate) fn draw(cells: &mut Cells, state: State) {
     put_seen(cells, CYCLES, 0, state.cycles as u64);
     draw_nodes(cells, state);
     draw_marks(cells, state);
@@ -142,7 +142,7 @@ fn load_queue(cells: &mut Cells, c: u64) {
 }
 
 // Station j, counted from 0, is place j + 1 of its channel.
-pub fn load_station(cells: &mut Cells, c: u64, j: u64) {
+pub(crate) fn load_station(cells: &mut Cells, c: u64, j: u64) {
     let k = in_eights(c, j);
     let count = seen(cells, STATIONS, in_threes(k, 0));
     let first = seen(cells, STATIONS, in_threes(k, 1));
@@ -186,7 +186,7 @@ fn load_nodes(cells: &mut Cells) {
     }
 }
 
-pub fn load(cells: &mut Cells) {
+pub(crate) fn load(cells: &mut Cells) {
     put(cells, chip::CYCLES, 0, seen(cells, CYCLES, 0));
     load_nodes(cells);
     load_channels(cells);
@@ -195,7 +195,7 @@ pub fn load(cells: &mut Cells) {
 // ---- and back
 
 // The token with k before it, 0 if it is not one of the count.
-pub fn token_if(cells: &Cells, c: u64, k: u64, there: bool) -> u64 {
+pub(crate) fn token_if(cells: &Cells, c: u64, k: u64, there: bool) -> u64 {
     if there {
         return chip::token(cells, c, k);
     }
@@ -210,7 +210,7 @@ fn store_queue(cells: &mut Cells, c: u64, count: u64) {
     }
 }
 
-pub fn store_station(cells: &mut Cells, k: u64, c: u64, count: u64, before: u64) {
+pub(crate) fn store_station(cells: &mut Cells, k: u64, c: u64, count: u64, before: u64) {
     let first = token_if(cells, c, before, 0 < count);
     let second = token_if(cells, c, plus(before, 1), 1 < count);
     put_kept(cells, STATIONS, in_threes(k, 0), count);
@@ -275,28 +275,28 @@ fn clear_unless(cells: &mut Cells, n: u64, there: u64) {
     }
 }
 
-pub fn store(cells: &mut Cells) {
+pub(crate) fn store(cells: &mut Cells) {
     put_kept(cells, CYCLES, 0, get(cells, chip::CYCLES, 0));
     store_nodes(cells);
     store_channels(cells);
 }
 
 // The second simulator's picture with all numbers 0.
-pub fn clear(cells: &mut Cells) {
+pub(crate) fn clear(cells: &mut Cells) {
     for i in 0..SIZE {
         put_kept(cells, i, 0, 0);
     }
 }
 
 // The second simulator's picture as that of the engine's state.
-pub fn copy(cells: &mut Cells) {
+pub(crate) fn copy(cells: &mut Cells) {
     for i in 0..SIZE {
         put_kept(cells, i, 0, seen(cells, i, 0));
     }
 }
 
 // The first place where the two pictures differ, or their size.
-pub fn first_difference(cells: &Cells) -> u64 {
+pub(crate) fn first_difference(cells: &Cells) -> u64 {
     for i in 0..SIZE {
         if seen(cells, i, 0) != kept(cells, i, 0) {
             return i;

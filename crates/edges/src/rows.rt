@@ -145,7 +145,13 @@ fn close_row(cells: &mut Cells, valid: bool) {
     }
 }
 
-pub fn second_row(cells: &mut Cells, length: u64, valid: bool, value: u64, stop: bool) -> u64 {
+pub(crate) fn second_row(
+    cells: &mut Cells,
+    length: u64,
+    valid: bool,
+    value: u64,
+    stop: bool,
+) -> u64 {
     let number = number_of(cells, length);
     picture::copy(cells);
     put(cells, chip::LETTER, 0, 0);
@@ -167,7 +173,7 @@ pub fn second_row(cells: &mut Cells, length: u64, valid: bool, value: u64, stop:
 // ---- both
 
 // The answer of a bench, and what the second simulator's row showed.
-pub fn same_answer(cells: &mut Cells, answer: Answer, number: u64) {
+pub(crate) fn same_answer(cells: &mut Cells, answer: Answer, number: u64) {
     compare::same_number(cells, compare::STEPS, answer.number, number);
     same(
         cells,
@@ -222,7 +228,7 @@ fn all_rows(cells: &mut Cells) {
     }
 }
 
-pub fn group(cells: &mut Cells) {
+pub(crate) fn group(cells: &mut Cells) {
     crate::clear_counts(cells);
     draft::seed(cells, 6);
     all_rows(cells);

@@ -40,7 +40,7 @@ fn start_channels(cells: &mut Cells) {
 }
 
 // Answers the image's number, with the picture of the fresh state or of a state of zeros.
-pub fn fresh(image: &[u8], cells: &mut Cells) -> u64 {
+pub(crate) fn fresh(image: &[u8], cells: &mut Cells) -> u64 {
     let number = verdict::judge(cells, image);
     picture::clear(cells);
     if number != 0 {
@@ -70,7 +70,7 @@ fn step_number(cells: &Cells, over: bool, room: u64) -> u64 {
 
 // A step from the picture before to the one after; a refused one leaves the state as it was. Room is
 // the length of the shorter array.
-pub fn step(image: &[u8], cells: &mut Cells, word: u64, room: u64) -> u64 {
+pub(crate) fn step(image: &[u8], cells: &mut Cells, word: u64, room: u64) -> u64 {
     picture::copy(cells);
     let misfit = verdict::state_number(image, cells);
     if misfit != 0 {
@@ -113,7 +113,7 @@ fn run_words(cells: &mut Cells, words: &[u64]) {
 }
 
 // Answers the number; the steps done are the chip's.
-pub fn run(image: &[u8], cells: &mut Cells, words: &[u64]) -> u64 {
+pub(crate) fn run(image: &[u8], cells: &mut Cells, words: &[u64]) -> u64 {
     picture::copy(cells);
     put(cells, chip::STEPS, 0, 0);
     let misfit = verdict::state_number(image, cells);
@@ -129,7 +129,7 @@ pub fn run(image: &[u8], cells: &mut Cells, words: &[u64]) -> u64 {
 
 // ---- the strict system: a table of the last 64 cycles, a row each
 
-pub fn strict_value(cells: &Cells, cycle: u64, n: u64) -> u64 {
+pub(crate) fn strict_value(cells: &Cells, cycle: u64, n: u64) -> u64 {
     get(cells, chip::HISTORY, in_64s(cycle, n))
 }
 
@@ -166,7 +166,7 @@ fn strict_start(cells: &mut Cells) {
 }
 
 // The values up to a cycle, of an accepted image.
-pub fn strict(image: &[u8], cells: &mut Cells, cycle: u64) {
+pub(crate) fn strict(image: &[u8], cells: &mut Cells, cycle: u64) {
     chip::decode(image, cells);
     strict_start(cells);
     for t in 0..cycle {
@@ -175,6 +175,6 @@ pub fn strict(image: &[u8], cells: &mut Cells, cycle: u64) {
 }
 
 // The smaller of two lengths, as a number.
-pub fn room(one: usize, other: usize) -> u64 {
+pub(crate) fn room(one: usize, other: usize) -> u64 {
     least(one as u64, other as u64)
 }

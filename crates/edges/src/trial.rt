@@ -258,7 +258,7 @@ fn first_bytes(cells: &mut Cells, bytes: &Bytes, length: u64, list: &mut List) {
 }
 
 // A netlist of a shape, drawn at random.
-pub fn at_random(cells: &mut Cells, bytes: &mut Bytes, shape: u64, list: &mut List) {
+pub(crate) fn at_random(cells: &mut Cells, bytes: &mut Bytes, shape: u64, list: &mut List) {
     let length = draft::netlist(bytes, cells, shape);
     first_bytes(cells, bytes, length, list);
     crate::cells::count(cells, compare::NETLISTS, 0);

@@ -20,7 +20,7 @@ const HALF: u64 = 2147483648;
 
 // Splits a word into its bits, from bit 0 on: a node may fire if its own is clear. Answers whether a
 // bit at or above N is set.
-pub fn spread(cells: &mut Cells, word: u64) -> bool {
+pub(crate) fn spread(cells: &mut Cells, word: u64) -> bool {
     let nodes = get(cells, chip::NODES, 0);
     let mut rest = word;
     let mut over = false;
@@ -64,7 +64,7 @@ fn bar_ends(cells: &mut Cells, c: u64) {
     }
 }
 
-pub fn letter_of(valid: bool, stop: bool) -> u64 {
+pub(crate) fn letter_of(valid: bool, stop: bool) -> u64 {
     if valid {
         if stop {
             return 82;
@@ -119,7 +119,7 @@ fn hand_on(cells: &mut Cells, c: u64, k: u64, stations: u64, stop: bool) {
 
 // From the last link, which is stopped or is not, to link 0. A place is looked at before its tokens are handed on: whether it is
 // full then is the stop of the link before it.
-pub fn pass_links(cells: &mut Cells, c: u64, row: u64, stopped: bool) {
+pub(crate) fn pass_links(cells: &mut Cells, c: u64, row: u64, stopped: bool) {
     let stations = row % 9;
     let mut stop = stopped;
     let mut left = stations + 1;
@@ -165,7 +165,7 @@ fn chosen(a: u64, b: u64, c: u64) -> u64 {
 }
 
 // The next value, in numbers modulo 2^32.
-pub fn next_value(kind: u64, value: u64, first: u64, second: u64, third: u64) -> u64 {
+pub(crate) fn next_value(kind: u64, value: u64, first: u64, second: u64, third: u64) -> u64 {
     let s = value % VALUES;
     let a = first % VALUES;
     let b = second % VALUES;
@@ -239,7 +239,7 @@ fn send_all(cells: &mut Cells) {
 }
 
 // One cycle, of a word that is spread.
-pub fn cycle(cells: &mut Cells) {
+pub(crate) fn cycle(cells: &mut Cells) {
     settle(cells);
     pass(cells);
     fire_all(cells);

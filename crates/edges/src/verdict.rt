@@ -126,7 +126,7 @@ fn parts_number(cells: &mut Cells, image: &[u8], nodes: u64, channels: u64) -> u
 }
 
 // 0 for an accepted image, or its number.
-pub fn judge(cells: &mut Cells, image: &[u8]) -> u64 {
+pub(crate) fn judge(cells: &mut Cells, image: &[u8]) -> u64 {
     let nodes = byte(image, 0);
     let channels = byte(image, 1);
     if image.len() < 2 {
@@ -169,7 +169,7 @@ fn nodes_fit(cells: &Cells, nodes: u64) -> bool {
 // How many tokens a place holds that may hold so many; far too many if it does not fit.
 const MISFIT: u64 = 1000000000;
 
-pub fn station_held(cells: &Cells, k: u64, limit: u64) -> u64 {
+pub(crate) fn station_held(cells: &Cells, k: u64, limit: u64) -> u64 {
     let count = seen(cells, picture::STATIONS, in_threes(k, 0));
     let first = seen(cells, picture::STATIONS, in_threes(k, 1));
     let second = seen(cells, picture::STATIONS, in_threes(k, 2));
@@ -249,7 +249,7 @@ fn channels_fit(cells: &Cells) -> bool {
     good
 }
 
-pub fn fits(cells: &Cells) -> bool {
+pub(crate) fn fits(cells: &Cells) -> bool {
     let nodes = get(cells, chip::NODES, 0);
     let early = seen(cells, picture::CYCLES, 0) <= LAST;
     (early & nodes_fit(cells, nodes)) & channels_fit(cells)
@@ -258,7 +258,7 @@ pub fn fits(cells: &Cells) -> bool {
 // ---- the order of the numbers
 
 // Of an image and a state: 0, the judge's number or 21. The chip has the netlist afterwards.
-pub fn state_number(image: &[u8], cells: &mut Cells) -> u64 {
+pub(crate) fn state_number(image: &[u8], cells: &mut Cells) -> u64 {
     let number = judge(cells, image);
     if number != 0 {
         return number;
@@ -271,7 +271,7 @@ pub fn state_number(image: &[u8], cells: &mut Cells) -> u64 {
 }
 
 // Before a word: 22, then 12.
-pub fn word_number(cells: &Cells, over: bool) -> u64 {
+pub(crate) fn word_number(cells: &Cells, over: bool) -> u64 {
     if LAST <= get(cells, chip::CYCLES, 0) {
         return 22;
     }
@@ -281,7 +281,7 @@ pub fn word_number(cells: &Cells, over: bool) -> u64 {
     0
 }
 
-pub fn strict_number(judged: u64, cycle: u64, room: u64, nodes: u64) -> u64 {
+pub(crate) fn strict_number(judged: u64, cycle: u64, room: u64, nodes: u64) -> u64 {
     if judged != 0 {
         return judged;
     }

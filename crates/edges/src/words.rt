@@ -5,7 +5,7 @@ use crate::draft::roll;
 use crate::draft::roll_word;
 
 // A trial's words: fewer than the 64 cycles of which strict values are kept.
-pub type List = [u64; 60];
+pub(crate) type List = [u64; 60];
 
 const LENGTH: usize = 60;
 
@@ -19,7 +19,7 @@ const EVEN: u64 = 6148914691236517205;
 const ODD: u64 = 12297829382473034410;
 
 // 2 to the i, and 0 from 64 on.
-pub fn power(i: u64) -> u64 {
+pub(crate) fn power(i: u64) -> u64 {
     let mut unit: u64 = 1;
     let mut left = i;
     while 0 < left {
@@ -71,7 +71,7 @@ fn by_turns(t: u64) -> u64 {
 
 // The word of cycle t: three patterns at random, no stalls, bursts in which all are stalled, one node
 // stalled for long, even and odd nodes by turns, only one node free.
-pub fn word(cells: &mut Cells, pattern: u64, t: u64, nodes: u64) -> u64 {
+pub(crate) fn word(cells: &mut Cells, pattern: u64, t: u64, nodes: u64) -> u64 {
     let one = roll_word(cells);
     let other = roll_word(cells);
     let face = pattern % PATTERNS;
@@ -88,7 +88,7 @@ pub fn word(cells: &mut Cells, pattern: u64, t: u64, nodes: u64) -> u64 {
 }
 
 // A word with a bit at or above N, for N below 64.
-pub fn word_above(cells: &mut Cells, nodes: u64) -> u64 {
+pub(crate) fn word_above(cells: &mut Cells, nodes: u64) -> u64 {
     let i = crate::cells::plus(nodes, roll(cells, 64));
     if i < 64 {
         return power(i);
@@ -96,7 +96,7 @@ pub fn word_above(cells: &mut Cells, nodes: u64) -> u64 {
     ALL
 }
 
-pub fn put_word(words: &mut List, i: u64, word: u64) {
+pub(crate) fn put_word(words: &mut List, i: u64, word: u64) {
     let at = (i % 60) as usize;
     if at < LENGTH {
         words[at] = word;
@@ -104,7 +104,7 @@ pub fn put_word(words: &mut List, i: u64, word: u64) {
 }
 
 // The words of a trial, for the netlist that was drafted last.
-pub fn fill(words: &mut List, cells: &mut Cells, pattern: u64) {
+pub(crate) fn fill(words: &mut List, cells: &mut Cells, pattern: u64) {
     let nodes = crate::cells::get(cells, draft::NODES, 0);
     let mut i: usize = 0;
     while i < LENGTH {
