@@ -4,14 +4,7 @@
 # The last line is 'N passed, M failed', a group of inputs being one test; ends with 1 if any failed.
 set -eu
 
-root=$(realpath "$(dirname "${BASH_SOURCE[0]}")/..")
-library=$(realpath -m "${1:-$root/target/staticlib}")
-cd "$root"
-if [ ! -f "$library/libcapi.a" ]; then
-    rt staticlib capi
-fi
-scratch=$(mktemp -d)
-trap 'rm -rf "$scratch"' EXIT
+source "$(dirname "${BASH_SOURCE[0]}")/library.sh" "${1:-}"
 rustc --edition 2021 -C opt-level=3 -L "$library" -o "$scratch/differential" tests/differential/main.rs
 status=0
 timeout 600 "$scratch/differential" ${2:+"$2"} || status=$?

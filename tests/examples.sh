@@ -7,14 +7,7 @@
 # on the examples and on all of tests/trace.
 set -eu
 
-root=$(realpath "$(dirname "${BASH_SOURCE[0]}")/..")
-library=$(realpath -m "${1:-$root/target/staticlib}")
-cd "$root"
-if [ ! -f "$library/libcapi.a" ]; then
-    rt staticlib capi
-fi
-scratch=$(mktemp -d)
-trap 'rm -rf "$scratch"' EXIT
+source "$(dirname "${BASH_SOURCE[0]}")/library.sh" "${1:-}"
 passed=0
 failed=0
 
