@@ -2,7 +2,7 @@
 //! output, or the line `refused` and a number.
 //!
 //!     rt staticlib capi
-//!     rustc -C opt-level=3 -L target/staticlib -o target/trace examples/rust/trace.rs
+//!     rustc --edition 2021 -C opt-level=3 -L target/staticlib -o target/trace examples/rust/trace.rs
 //!     target/trace < examples/figure4.input
 mod channel_bench;
 
