@@ -22,8 +22,8 @@ CAMEL = re.compile(r"[a-z0-9][A-Z]")
 DASH = re.compile(r"[^-]-[^-]")
 # words of the library that a lemma's name joins by a dash
 JOINED = set("length append take drop replicate map set get_or and or nor nand not if iff le lt ge gt eq add sub mul suc".split())
-# lemmas that are in snake case already and would have a definition's name
-TAKEN = {"bad_kind": "bad_kind_lem", "strict_next": "strict_next_lem", "value_after": "value_after_lem"}
+# names in snake case already that would have a definition's name: two lemmas, and an example's image
+TAKEN = {"bad_kind": "bad_kind_image", "strict_next": "strict_next_lem", "value_after": "value_after_lem"}
 # names that hold an older name of the library's
 OLDER = {"getD-padded": "get_or-padded"}
 # dashed words that the check makes or the library declares
@@ -113,9 +113,7 @@ def turn(text, turned, kind):
         at = line.find(mark) if kind != "edit" else (0 if line.startswith("#") else -1)
         code, comment = (line, "") if at < 0 else (line[:at], line[at:])
         if kind == "rt":
-            code = camel.sub(lambda m: turned[m[1]], code)
-            if re.search(r"ghost use|^\s+[\w, ]*-[\w, -]*\};?$", code):
-                code = all_words(code)
+            code = all_words(code) if "ghost use" in code else camel.sub(lambda m: turned[m[1]], code)
         else:
             code = all_words(code)
         out.append(code + prose(comment))

@@ -1,5 +1,7 @@
 // Benches for relay stations on their own: one station, or a row of up to eight, is lent and changed
 // in place by one cycle.
+#![tactic(auto)]
+
 pub mod steps;
 
 ghost use Rattle.std.specs.Prelude.{[], ◌∷◌, ◌≡◌};
@@ -10,7 +12,7 @@ use relay::{Row, Station};
 
 // What a bench answers: 0 or the number that refuses it; the letter and the value of the link that
 // leaves the row; and whether the incoming token was taken. A refused bench answers 0, 0 and no.
-#[derive(Drop)]
+#[derive(Clone, Copy)]
 pub struct Answer {
     pub number: u8,
     pub letter: u8,
@@ -19,21 +21,21 @@ pub struct Answer {
 }
 
 // A station after a bench, and its answer.
-#[derive(Drop)]
+#[derive(Clone, Copy)]
 pub struct StationBenched {
     pub station: Station,
     pub answer: Answer,
 }
 
 // A row after a bench, and its answer.
-#[derive(Drop)]
+#[derive(Clone, Copy)]
 pub struct RowBenched {
     pub row: Row,
     pub answer: Answer,
 }
 
 // Nine records, one more than a row may have.
-#[derive(Drop)]
+#[derive(Clone, Copy)]
 pub struct Records {
     pub stations: [Station; 9],
 }
@@ -43,7 +45,7 @@ impl Records {
 }
 
 // Nine records after a bench of the first of them, and its answer.
-#[derive(Drop)]
+#[derive(Clone, Copy)]
 pub struct RecordsBenched {
     pub records: Records,
     pub answer: Answer,

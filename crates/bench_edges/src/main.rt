@@ -4,6 +4,8 @@
 //
 // A record is printed as its count and its two places. Everything goes through the lent forms: the
 // trials lend a copy.
+#![tactic(auto)]
+
 use bench::{Answer, Records};
 use libc::STDOUT_FILENO;
 use relay::Station;

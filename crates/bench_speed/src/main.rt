@@ -1,13 +1,15 @@
 // A row of eight through 1,000,000 calls of the row bench, to be timed as a whole. A token comes in
 // three calls of four, and the row is stopped below in one of four. Prints how many tokens left the
 // row, and what its last record holds.
+#![tactic(auto)]
+
 ghost use Rattle.std.specs.Prelude.{◌≤◌};
 
 use bench::Records;
 use libc::STDOUT_FILENO;
 use relay::Station;
 
-#[derive(Drop)]
+#[derive(Clone, Copy)]
 struct Ran {
     records: Records,
     left: u32,

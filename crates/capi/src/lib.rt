@@ -3,6 +3,8 @@
 //
 // Each answers 0, or the number that refuses the call. What it answers beside that it stores through
 // its last references.
+#![tactic(auto)]
+
 mod read;
 mod write;
 

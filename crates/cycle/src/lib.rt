@@ -1,6 +1,8 @@
 // One cycle: which inputs are ready (data validation), which nodes are held back (back pressure),
 // which nodes fire (clock gating), and then every token that passes moves on; and what its channels
 // show in it.
+#![tactic(auto)]
+
 ghost use Rattle.std.specs.Prelude.{◌≡◌, suc, ◌+◌, ◌<◌, ◌≤◌, length};
 ghost use Rattle.laws.specs.Choice.{◌if◌else◌};
 ghost use Rattle.laws.specs.Table.{table_over};
@@ -44,12 +46,12 @@ fn fired(node: Node, kind: u8, a: i32, b: i32, c: i32) -> Node
 }
 
 // What is decoded of the channels, and of the nodes.
-#[derive(Drop)]
+#[derive(Clone, Copy)]
 struct Wires {
     at: [Channel; 96],
 }
 
-#[derive(Drop)]
+#[derive(Clone, Copy)]
 struct Kinds {
     at: [u8; 64],
 }

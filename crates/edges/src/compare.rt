@@ -147,7 +147,7 @@ pub(crate) fn fresh(cells: &mut Cells, image: &[u8]) -> State {
 // ---- steps
 
 // How many places of the two arrays are lent.
-#[derive(Drop)]
+#[derive(Clone, Copy)]
 pub(crate) struct Rooms {
     pub letters: usize,
     pub values: usize,

@@ -3,6 +3,8 @@
 // `verdict` its numbers and `second` its calls. First the paper's edges that are not starred; then netlists
 // at random, a line a group. A group's netlists are counted from 0, and a difference says in which
 // one, and where, it was found.
+#![tactic(auto)]
+
 mod cells;
 mod chip;
 mod compare;

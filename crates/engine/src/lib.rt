@@ -1,4 +1,6 @@
 // The cycle engine: one step of a state, and a run over a list of stall words.
+#![tactic(auto)]
+
 ghost use Rattle.std.specs.Prelude.{◌≡◌, ◌≤◌};
 ghost use Rattle.engine.specs.Answer.{sets_above, step_number};
 ghost use Rattle.engine.specs.Taken.{state_number, taken_from};
@@ -7,14 +9,14 @@ ghost use Rattle.engine.specs.Done.{StepDone, RunDone};
 use state::State;
 
 // What a step answers.
-#[derive(Drop)]
+#[derive(Clone, Copy)]
 pub struct Stepped {
     pub number: u8,
     pub state: State,
 }
 
 // What a run answers: the steps done, and the number that stopped it or 0.
-#[derive(Drop)]
+#[derive(Clone, Copy)]
 pub struct Ran {
     pub steps: u32,
     pub number: u8,
@@ -22,7 +24,7 @@ pub struct Ran {
 }
 
 // Which words a run takes: how many, and the number that stops it or 0.
-#[derive(Drop)]
+#[derive(Clone, Copy)]
 struct Taken {
     steps: usize,
     number: u8,

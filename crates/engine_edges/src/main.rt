@@ -5,6 +5,8 @@
 // Standard input has two images of 47 bytes: figure 4's, and one with stations on every channel:
 // kinds 1 6 4 7, parameters 10 100 200 300, wires 0-1-0, 3-1-1, 1-2-0, 2-3-0, 0-3-1, depths 1/1, 1/1,
 // 2/1, 1/2, 3/1.
+#![tactic(auto)]
+
 use libc::STDOUT_FILENO;
 use relay::Station;
 use shell::Queue;

@@ -3,6 +3,8 @@
 // the number that the run answered, the sum of the nodes' firings, and a checksum of every field of
 // the end state. The image is taken to have 802 bytes. A byte behind it asks for one run only: `f`
 // for the one without stalls, `s` for the other.
+#![tactic(auto)]
+
 use libc::STDOUT_FILENO;
 use relay::Station;
 use shell::Queue;
@@ -80,7 +82,7 @@ fn add_node(sum: u64, node: Node) -> u64 {
 }
 
 // The sum of the nodes' firings, and the checksum.
-#[derive(Drop)]
+#[derive(Clone, Copy)]
 struct End {
     firings: u64,
     checksum: u64,

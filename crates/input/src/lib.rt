@@ -1,6 +1,8 @@
 // Standard input, read to its end. What the bytes are no contract can say; what is promised is that
 // the counts are right for the buffer that was lent, so that a program can take the part that holds
 // the input without a test of its own.
+#![tactic(auto)]
+
 ghost use Rattle.std.specs.Prelude.{◌+◌, ◌^◌, ◌≤◌, length};
 ghost use Rattle.input.specs.Input.{Read};
 
@@ -8,7 +10,7 @@ use libc::STDIN_FILENO;
 
 // What was read. The first `kept` bytes of the buffer are the input's; `length` counts them and
 // those that had no room. Where a read failed `complete` is false, and both count what came before.
-#[derive(Drop)]
+#[derive(Clone, Copy)]
 pub struct Input {
     pub complete: bool,
     pub kept: usize,
@@ -16,7 +18,7 @@ pub struct Input {
 }
 
 // One read: how many bytes came, 0 at the end of the input and where it failed.
-#[derive(Drop)]
+#[derive(Clone, Copy)]
 struct Part {
     failed: bool,
     count: usize,
@@ -55,7 +57,7 @@ fn skip_part() -> Part
 }
 
 // What had no room: how many bytes, and whether its end was reached.
-#[derive(Drop)]
+#[derive(Clone, Copy)]
 struct Rest {
     complete: bool,
     length: u64,

@@ -2,6 +2,8 @@
 //
 // No image is longer than 802 bytes, so the first 803 decide (`netlist`'s specs/Head.antt); what
 // follows is read to its end all the same. Where the input cannot be read, no verdict is printed.
+#![tactic(auto)]
+
 use libc::{STDERR_FILENO, STDOUT_FILENO};
 
 fn print(number: u8) {

@@ -1,9 +1,11 @@
 // Runs the judge at its limits, on images that have one cause of a number or two, and prints a line a
 // case. Each image is made from the largest one, 64 nodes and 96 channels.
+#![tactic(auto)]
+
 use libc::STDOUT_FILENO;
 
 // An image and its length.
-#[derive(Drop)]
+#[derive(Clone, Copy)]
 struct Image {
     bytes: [u8; 820],
     length: usize,

@@ -1,5 +1,7 @@
 // Judges the image on standard input 100,000 times, with another parameter each time, and prints how
 // often it was accepted. docs/PERFORMANCE.md times it as a whole.
+#![tactic(auto)]
+
 ghost use Rattle.std.specs.Prelude.{◌+◌, ◌^◌, ◌<◌, ◌≤◌};
 
 use libc::STDOUT_FILENO;

@@ -1,4 +1,6 @@
 // The netlist image: the judge, and readers of its fields.
+#![tactic(auto)]
+
 mod passes;
 
 ghost use Rattle.std.specs.Prelude.{◌||◌, ◌≡◌, ◌+◌, ◌*◌, ◌^◌, ◌<◌, ltb, get_or};
@@ -9,7 +11,7 @@ ghost use Rattle.netlist.specs.Judge.{judge};
 ghost use Rattle.netlist.specs.Readers.{core_at, channel_at};
 
 // A node's fields. Kinds are 1 to 9 in an accepted image.
-#[derive(Drop)]
+#[derive(Clone, Copy)]
 pub struct Core {
     pub kind: u8,
     pub parameter: i32,
@@ -17,7 +19,7 @@ pub struct Core {
 
 // A channel's fields: the nodes at its ends, the input port of the node that it leads to, how many
 // relay stations stand on it, and the depth of the queue at its end.
-#[derive(Drop)]
+#[derive(Clone, Copy)]
 pub struct Channel {
     pub from: u8,
     pub to: u8,

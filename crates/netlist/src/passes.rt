@@ -3,7 +3,7 @@
 ghost use Rattle.std.specs.Prelude.{◌≡◌, ◌+◌, ◌<◌, ◌≤◌};
 ghost use Rattle.laws.specs.Below.{any_below};
 ghost use Rattle.netlist.specs.Image.{nodes, channels};
-ghost use Rattle.netlist.specs.Judge.{bad_kind_lem, judge};
+ghost use Rattle.netlist.specs.Judge.{bad_kind, judge};
 ghost use Rattle.netlist.specs.Ports.{Wired};
 ghost use Rattle.netlist.specs.Clear.{Sized};
 ghost use Rattle.netlist.specs.Passes.{found_below, Passed, depth_number, fed_below, misses};
@@ -11,7 +11,7 @@ ghost use Rattle.netlist.specs.Passes.{found_below, Passed, depth_number, fed_be
 use crate::{channel_at, channels, inputs, kind_at, nodes, wide};
 
 // What a pass over the channels finds: whether number 5, 6, 9 or 10 has a cause, and all stations.
-#[derive(Drop)]
+#[derive(Clone, Copy)]
 pub struct Found {
     pub wire: bool,
     pub port: bool,
@@ -21,7 +21,7 @@ pub struct Found {
 }
 
 // The ports that are fed, 3 places a node, and whether one is fed twice.
-#[derive(Drop)]
+#[derive(Clone, Copy)]
 pub struct Fed {
     pub twice: bool,
     pub ports: [bool; 192],

@@ -1,10 +1,12 @@
 // The cores ("pearls") that a shell wraps: a node's next value, by its kind.
+#![tactic(auto)]
+
 ghost use Rattle.std.specs.Prelude.{◌≡◌, ◌<◌, ◌^◌, ◌+ℤ◌, ◌-ℤ◌};
 ghost use Rattle.std.specs.Int.Signed.{mag};
 ghost use Rattle.pearl.specs.Next.{halve, larger, choose, fired, next};
 
 // The answer: number 0 and the next value, or number 4 and 0 for a kind that is not 1 to 9.
-#[derive(Drop)]
+#[derive(Clone, Copy)]
 pub struct Next {
     pub number: u8,
     pub value: i32,

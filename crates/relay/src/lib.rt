@@ -1,4 +1,6 @@
 // Relay stations, by value: a link, one station in a cycle, and a row of up to eight.
+#![tactic(auto)]
+
 ghost use Rattle.std.specs.Prelude.{[], ◌∷◌, ◌≡◌, ◌≤◌, ◌<◌, min, drop};
 ghost use Rattle.laws.specs.Lists.{holds_two};
 ghost use Rattle.relay.specs.Link.{token, link_of, reading};
@@ -7,35 +9,35 @@ ghost use Rattle.relay.specs.Row.{stopped, link_at};
 ghost use Rattle.relay.specs.RowCycle.{places, row_cycle, station_after};
 
 // What a link shows: a token while it is valid. The value of a void link is not looked at.
-#[derive(Drop)]
+#[derive(Clone, Copy)]
 pub struct Link {
     pub valid: bool,
     pub value: i32,
 }
 
 // What a trace says of a link: its letter, an ASCII capital, and the value beside it.
-#[derive(Drop)]
+#[derive(Clone, Copy)]
 pub struct Reading {
     pub letter: u8,
     pub value: i32,
 }
 
 // A relay station: its tokens from the first place on, oldest first. A place that holds none is 0.
-#[derive(Drop)]
+#[derive(Clone, Copy)]
 pub struct Station {
     pub tokens: [i32; 2],
     pub count: u8,
 }
 
 // A row of stations, the first nearest to the from node.
-#[derive(Drop)]
+#[derive(Clone, Copy)]
 pub struct Row {
     pub stations: [Station; 8],
 }
 
 // What a cycle makes of a row: the row after it, what the leaving link showed, and whether the
 // token on the entering link was taken.
-#[derive(Drop)]
+#[derive(Clone, Copy)]
 pub struct RowCycle {
     pub row: Row,
     pub leaving: Link,

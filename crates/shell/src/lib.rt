@@ -1,4 +1,6 @@
 // The shell's side of a channel, by value: the queue at its end, and the pending mark at its start.
+#![tactic(auto)]
+
 ghost use Rattle.std.specs.Prelude.{[], ◌++◌, ◌≡◌, ◌<◌};
 ghost use Rattle.relay.specs.Link.{token, link_of, passing};
 ghost use Rattle.shell.specs.Queue.{waiting, queue_of, full, pushed, popped, queue_after};
@@ -7,7 +9,7 @@ ghost use Rattle.shell.specs.Channel.{blocked, pending_after};
 use relay::Link;
 
 // A queue: its tokens from the first place on, oldest first. A place that holds none is 0.
-#[derive(Drop)]
+#[derive(Clone, Copy)]
 pub struct Queue {
     pub tokens: [i32; 8],
     pub count: u8,

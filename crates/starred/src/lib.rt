@@ -1,10 +1,12 @@
 // The edges that document 01 stars: the arithmetic ones as a table, to be run; all of them as one
 // claim on the definitions (specs/Starred.antt).
+#![tactic(auto)]
+
 ghost use Rattle.std.specs.Prelude.{◌≡◌};
 ghost use Rattle.starred.specs.Edges.{edge_at};
 
 // A kind, the values s, a, b and c that go in, and the next value that they give.
-#[derive(Drop)]
+#[derive(Clone, Copy)]
 pub struct Edge {
     pub kind: u8,
     pub inputs: [i32; 4],

@@ -1,4 +1,6 @@
 // The state of a netlist between two cycles: the fresh one, and whether a state fits its image.
+#![tactic(auto)]
+
 mod initial;
 mod passes;
 
@@ -10,7 +12,7 @@ use relay::Station;
 use shell::Queue;
 
 // A node: the value that it shows, and how often it has fired.
-#[derive(Drop)]
+#[derive(Clone, Copy)]
 pub struct Node {
     pub value: i32,
     pub firings: u32,
@@ -18,7 +20,7 @@ pub struct Node {
 
 // The state of a netlist between two cycles. Station j of channel c, counted from 0, stands at
 // place 8 * c + j. A place that nothing uses is 0.
-#[derive(Drop)]
+#[derive(Clone, Copy)]
 pub struct State {
     pub cycles: u32,
     pub nodes: [Node; 64],
@@ -28,7 +30,7 @@ pub struct State {
 }
 
 // What a call for a fresh state answers.
-#[derive(Drop)]
+#[derive(Clone, Copy)]
 pub struct Fresh {
     pub number: u8,
     pub state: State,

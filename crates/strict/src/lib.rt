@@ -1,4 +1,6 @@
 // The strict reference run: the values that the nodes have where no wire is too long for one clock.
+#![tactic(auto)]
+
 ghost use Rattle.std.specs.Prelude.{◌≡◌, ◌<◌, ◌≤◌, pos, length, get_or};
 ghost use Rattle.laws.specs.Table.{table_over};
 ghost use Rattle.netlist.specs.Image.{nodes, channels};
@@ -8,14 +10,14 @@ ghost use Rattle.strict.specs.Answer.{strict_number, strict_written};
 ghost use Rattle.strict.specs.Decoded.{cores_below, feeders_below, NamesPlaces, port_on, next_on, values_after, values_at};
 
 // What is decoded of the nodes: each one's kind and parameter.
-#[derive(Drop)]
+#[derive(Clone, Copy)]
 struct Cores {
     kinds: [u8; 64],
     parameters: [i32; 65],
 }
 
 // The nodes' values in a cycle. Place 64 is no node's and stays 0, for ports that no channel feeds.
-#[derive(Drop)]
+#[derive(Clone, Copy)]
 struct Values {
     at: [i32; 65],
 }

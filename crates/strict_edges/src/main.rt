@@ -1,6 +1,8 @@
 // Runs the strict system on the image on standard input, at the limits of its cycles and of the lent
 // array, and prints a line a case: the number, and then what all 66 places hold. Each held 7 before.
 // docs/PERFORMANCE.md times it as a whole: nearly all of its time is the run to cycle 1,000,000.
+#![tactic(auto)]
+
 use libc::STDOUT_FILENO;
 
 // The run on the first `room` places.

@@ -4,6 +4,8 @@
 // Each writer puts its line at the start of the slice that it is lent and leaves all that follows as
 // it was. Where the slice is shorter than the line it answers 13 and writes nothing; so a line is
 // measured before it is written.
+#![tactic(auto)]
+
 ghost use mathlib.Core.List.{flat_map};
 ghost use Rattle.std.specs.Prelude.{◌≡◌, ◌+◌, ◌*◌, ◌-◌, ◌<◌, ◌≤◌, pos, length, get_or};
 ghost use Rattle.text.specs.Decimal.{decimal, signed_text};
@@ -13,7 +15,7 @@ ghost use Rattle.text.specs.Trace.{header};
 ghost use Rattle.text.specs.Write.{WriteDone};
 
 // What a writer answers: 0 and how many bytes it wrote, or 13 and 0.
-#[derive(Drop)]
+#[derive(Clone, Copy)]
 pub struct Written {
     pub number: u8,
     pub length: usize,

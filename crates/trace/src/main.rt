@@ -4,6 +4,8 @@
 // The whole input is read and judged before anything is printed. Each line is made as a value, whose
 // contract says which line of the trace it is, and is then printed by one write; a write that fails
 // ends the program. Where the input cannot be read, nothing is printed.
+#![tactic(auto)]
+
 ghost use Rattle.std.specs.Prelude.{true, ◌≡◌, min, length};
 ghost use Rattle.io.specs.Counts.{IsPrefixLen};
 ghost use Rattle.state.specs.Fresh.{fresh_state};
@@ -26,21 +28,21 @@ const LONGEST: usize = 33570;
 const LINE: usize = 1259;
 
 // A line: the first `length` bytes.
-#[derive(Drop)]
+#[derive(Clone, Copy)]
 struct Line {
     bytes: [u8; LINE],
     length: usize,
 }
 
 // A cycle's line, and the state after the cycle.
-#[derive(Drop)]
+#[derive(Clone, Copy)]
 struct Cycled {
     line: Line,
     state: State,
 }
 
 // What is printed so far: whether every write was taken, and the state after the last cycle.
-#[derive(Drop)]
+#[derive(Clone, Copy)]
 struct Printed {
     taken: bool,
     state: State,

@@ -152,8 +152,8 @@ and_more head more = input_number head (length head + more)
 abbrev most : ℕ
 most = 8 * 4096
 
-abbrev bad_kind_lem : List ℕ
-bad_kind_lem = set figure4 2 0
+abbrev bad_kind_image : List ℕ
+bad_kind_image = set figure4 2 0
 
 record Numbered : Type 0 where
   at_1_empty : number [] ≡ 1
@@ -165,8 +165,8 @@ record Numbered : Type 0 where
   at_3_bytes : number (with figure4 (0 ∷ []) ++ replicate 7 0) ≡ 3
   -- of two causes the first: 2 before a ragged tail, that before 4, 4 before 14
   sizes_first : number (set figure4 0 0 ++ (0 ∷ [])) ≡ 2
-  then_tail : number (bad_kind_lem ++ (0 ∷ [])) ≡ 3
-  then_kind : and_more bad_kind_lem (most + 8) ≡ 4
+  then_tail : number (bad_kind_image ++ (0 ∷ [])) ≡ 3
+  then_kind : and_more bad_kind_image (most + 8) ≡ 4
   at_14 : and_more figure4 (most + 8) ≡ 14
   at_14_not : and_more figure4 most ≡ 0
   tail_before_14 : and_more figure4 (most + 9) ≡ 3

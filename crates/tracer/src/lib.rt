@@ -1,6 +1,8 @@
 // What the trace program reads and prints. Its standard input holds an image, and then 8-byte stall
 // words, low byte first; a function that reads words takes the whole input. What it prints is a line
 // for each cycle, and a closing line.
+#![tactic(auto)]
+
 ghost use Rattle.std.specs.Prelude.{◌≡◌, ◌-◌, ◌≤◌, length, get_or};
 ghost use Rattle.io.specs.Counts.{IsPrefixLen};
 ghost use Rattle.laws.specs.Table.{table};
@@ -15,7 +17,7 @@ use text::Written;
 
 // What a cycle's line answers: 0, how long it is and the state after the cycle; or the number, 0 and
 // the state that was handed in.
-#[derive(Drop)]
+#[derive(Clone, Copy)]
 pub struct Lined {
     pub number: u8,
     pub length: usize,
