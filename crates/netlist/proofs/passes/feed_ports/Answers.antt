@@ -23,13 +23,17 @@ pub loop-i-init : goal.loop-i-init
 unfolding any_below ports_below marks_below fed_below
 loop-i-init c = (omega arith, refl)
 
-pub bounds-fed-at : goal.bounds-fed-at
-bounds-fed-at c =
+-- and it is there
+within : (c : After-wide-in-loop-i) → 3 * c.wide.result + c.wide-in-loop-i.result < 192
+within c =
     let h : c.loop-i.i < channels c.args.image.now = omega (arith, c.channels-c.ensures) in
-    rw (at-port (goal.at.bounds-fed-at c).After-wide-in-loop-i) (place_there c.args.image.now _ c.requires c.loop-i.i h)
+    rw (at-port c) (place_there c.args.image.now _ c.requires c.loop-i.i h)
+
+pub bounds-fed-at : goal.bounds-fed-at
+bounds-fed-at c = within (goal.at.bounds-fed-at c).After-wide-in-loop-i
 
 pub bounds-fed-at-in-loop-i : goal.bounds-fed-at-in-loop-i
-bounds-fed-at-in-loop-i c = element-copy-out-fed (goal.at.bounds-fed-at-in-loop-i c).After-wide-in-loop-i
+bounds-fed-at-in-loop-i c = within (goal.at.bounds-fed-at-in-loop-i c).After-wide-in-loop-i
 
 pub loop-i-preserved : goal.loop-i-preserved
 unfolding any_below ports_below marks_below fed_below
