@@ -1,6 +1,6 @@
 -- Laws of a cycle: what each node and each channel is after it, and what firing asks. Assumes nothing.
 use Rattle.std.specs.Prelude.{Bool, true, false, not, ◌&&◌, List, ◌++◌, ◌↔◌, ◌≡◌, ℕ, suc, ◌+◌, ◌<◌, ℤ, length}
-use Rattle.std.proofs.Math.Logic.{Iff·rfl}
+use Rattle.std.proofs.Math.Logic.Iff.{rfl}
 use Rattle.std.proofs.Math.Path.{refl, sym, ap}
 use Rattle.std.proofs.Common.{◌∙◌, arith}
 use Rattle.std.proofs.Math.Dec.{eqb}
@@ -94,12 +94,12 @@ module _ (img : List ℕ) (w : ℕ) (s : State) (n : ℕ) where
   unfolding fires all_ready any_blocked
   fires-iff =
       and-iff (not (stalled w n) && all_ready img s n) (not (any_blocked img s n))
-      (and-iff (not (stalled w n)) (all_ready img s n) (not_iff (stalled w n) Iff·rfl)
+      (and-iff (not (stalled w n)) (all_ready img s n) (not_iff (stalled w n) rfl)
       (all_iff (λ c. (input_at img s c).valid if eqb (to img c) n else true) (channels img)
-      (λ c. if-iff (eqb (to img c) n) (input_at img s c).valid (eq_iff (to img c) n) Iff·rfl)))
+      (λ c. if-iff (eqb (to img c) n) (input_at img s c).valid (eq_iff (to img c) n) rfl)))
       (not_iff (any_blocked img s n)
       (none-iff (λ c. eqb (from img c) n && blocked_at img s c) (channels img)
-      (λ c. nand-iff (eqb (from img c) n) (blocked_at img s c) (eq_iff (from img c) n) Iff·rfl)))
+      (λ c. nand-iff (eqb (from img c) n) (blocked_at img s c) (eq_iff (from img c) n) rfl)))
 
 module _ (img : List ℕ) (w : ℕ) (s : State) (c : ℕ) (h : c < channels img) where
   -- a node that fires finds each of its inputs ready,
