@@ -1,7 +1,4 @@
--- What the proofs by hand share.
-pub mod Walk
-pub mod Inputs
-pub mod Singles
-pub mod Accepted
-pub mod RowCalls
-pub mod Arrays
+-- Laws of the benches.
+pub mod BenchLaws
+pub mod CopyLaws
+pub mod Kept

@@ -24,7 +24,7 @@ use Rattle.relay.specs.Row.{stopped, leaving, row_after, contents}
 use Rattle.relay.specs.RowLaws.{row_fifo, row_few, link_few, length-after, leaving-at}
 use Rattle.relay.specs.RowCycle.{no_station}
 use Rattle.bench.specs.Bench.{fits, bench_number, reply, bench_answer, bench_after}
-use Rattle.bench.specs.BenchLaws.{length_bench}
+use Rattle.bench.proofs.BenchLaws.{length_bench}
 
 -- what is written fits
 fits_of : (place : List ℤ) → length place ≤ 2 → fits (station_of place) ≡ true

@@ -15,7 +15,7 @@ use Rattle.relay.specs.RowCycle.{no_station}
 use Rattle.bench.specs.declared.Answer.{Answer}
 use Rattle.bench.specs.declared.RowBenched.{RowBenched}
 use Rattle.bench.specs.Bench.{bench_answer, bench_after}
-use Rattle.bench.specs.BenchLaws.{bench_long, length_bench, bench_stays}
+use Rattle.bench.proofs.BenchLaws.{bench_long, length_bench, bench_stays}
 use Rattle.bench.specs.ByValue.{row_benched}
 use Rattle.bench.specs.Copy.{copies, empty_row, record_at, copied}
 
