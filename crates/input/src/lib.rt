@@ -6,7 +6,7 @@
 ghost use Rattle.std.specs.Prelude.{◌+◌, ◌^◌, ◌≤◌, length};
 ghost use Rattle.input.specs.Input.{Read};
 
-use libc::STDIN_FILENO;
+use std::io;
 
 // What was read. The first `kept` bytes of the buffer are the input's; `length` counts them and
 // those that had no room. Where a read failed `complete` is false, and both count what came before.
@@ -24,36 +24,35 @@ struct Part {
     count: usize,
 }
 
-fn read_part(buffer: &mut [u8]) -> Part
+fn read_part<R: io::Read>(reader: &mut R, buffer: &mut [u8]) -> Part
     ensures { result.count ≤ length buffer.old }
 {
-    let got = libc::read(STDIN_FILENO, buffer);
-    if got < 0 {
-        return Part {
+    match reader.read(buffer) {
+        Ok(count) => Part {
+            failed: false,
+            count,
+        },
+        Err(_) => Part {
             failed: true,
             count: 0,
-        };
-    }
-    Part {
-        failed: false,
-        count: io::count(got, buffer),
+        },
     }
 }
 
 // One read to the buffer's places from `at` on.
-fn read_at(buffer: &mut [u8], at: usize) -> Part
+fn read_at<R: io::Read>(reader: &mut R, buffer: &mut [u8], at: usize) -> Part
     requires { at ≤ length buffer.old }
     ensures { at + result.count ≤ length buffer.old }
 {
-    read_part(&mut buffer[at..])
+    read_part(reader, &mut buffer[at..])
 }
 
 // One read of bytes that have no room.
-fn skip_part() -> Part
+fn skip_part<R: io::Read>(reader: &mut R) -> Part
     ensures { result.count ≤ 65536 }
 {
-    let mut spare = io::large_buffer();
-    read_part(&mut spare)
+    let mut spare = [0u8; 65536];
+    read_part(reader, &mut spare)
 }
 
 // What had no room: how many bytes, and whether its end was reached.
@@ -65,13 +64,13 @@ struct Rest {
 
 // Nothing says that an input ends, and a proved loop does. So this one gives up after 2^40 reads,
 // which no run makes, as it does where a read fails.
-fn skip_rest() -> Rest
+fn skip_rest<R: io::Read>(reader: &mut R) -> Rest
     ensures { result.length ≤ 2 ^ 56 }
 {
     let mut length: u64 = 0;
     let mut turns: u64 = 0;
     while turns < 1099511627776 {
-        let part = skip_part();
+        let part = skip_part(reader);
         if part.count == 0 {
             return Rest {
                 complete: !part.failed,
@@ -87,14 +86,15 @@ fn skip_rest() -> Rest
     }
 }
 
-// Reads standard input to its end, however short the reads come: the first bytes into the buffer,
-// as many as it holds; the others are only counted.
-pub fn read_to_end(buffer: &mut [u8]) -> Input
+// Reads standard input, or what other reader is lent, to its end, however short the reads come: the
+// first bytes into the buffer, as many as it holds; the others are only counted. A read that a signal
+// interrupts counts as one that failed.
+pub fn read_to_end<R: io::Read>(reader: &mut R, buffer: &mut [u8]) -> Input
     ensures { Read result buffer.new }
 {
     let mut at: usize = 0;
     while at < buffer.len() {
-        let part = read_at(buffer, at);
+        let part = read_at(reader, buffer, at);
         if part.count == 0 {
             return Input {
                 complete: !part.failed,
@@ -104,7 +104,7 @@ pub fn read_to_end(buffer: &mut [u8]) -> Input
         }
         at += part.count;
     }
-    let rest = skip_rest();
+    let rest = skip_rest(reader);
     Input {
         complete: rest.complete,
         kept: at,

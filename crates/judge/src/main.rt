@@ -4,25 +4,21 @@
 // follows is read to its end all the same. Where the input cannot be read, no verdict is printed.
 #![tactic(auto)]
 
-use libc::{STDERR_FILENO, STDOUT_FILENO};
+use std::io;
 
-fn print(number: u8) {
+fn print(rt: &impl Print, number: u8) -> io::Result<()> {
     if number == 0 {
-        io::write_all(STDOUT_FILENO, b"accepted\n");
-        return;
+        return println!(rt; "accepted");
     }
-    io::write_all(STDOUT_FILENO, b"refused ");
-    io::print_decimal(STDOUT_FILENO, number as u64);
-    io::write_all(STDOUT_FILENO, b"\n");
+    println!(rt; "refused {number}")
 }
 
-fn main() {
+fn main(rt: HostRuntime) -> io::Result<()> {
     let mut image = [0u8; 803];
-    let input = input::read_to_end(&mut image);
+    let input = input::read_to_end(&mut rt.stdin(), &mut image);
     if !input.complete {
-        io::write_all(STDERR_FILENO, b"judge: standard input cannot be read\n");
-        return;
+        return eprintln!(rt; "judge: standard input cannot be read");
     }
     let kept = input.kept;
-    print(netlist::judge(&image[..kept]));
+    print(&rt, netlist::judge(&image[..kept]))
 }

@@ -2,7 +2,7 @@
 // case. Each image is made from the largest one, 64 nodes and 96 channels.
 #![tactic(auto)]
 
-use libc::STDOUT_FILENO;
+use std::io;
 
 // An image and its length.
 #[derive(Clone, Copy)]
@@ -80,65 +80,68 @@ fn number_of(bytes: &[u8], length: usize) -> u8 {
     netlist::judge(bytes)
 }
 
-fn judge(label: &[u8], image: Image) {
+fn judge(rt: &impl Print, label: &str, image: Image) -> io::Result<()> {
     let bytes = image.bytes;
     let number = number_of(&bytes, image.length);
-    io::write_all(STDOUT_FILENO, label);
     if number == 0 {
-        io::write_all(STDOUT_FILENO, b": accepted\n");
-        return;
+        return println!(rt; "{label}: accepted");
     }
-    io::write_all(STDOUT_FILENO, b": refused ");
-    io::print_decimal(STDOUT_FILENO, number as u64);
-    io::write_all(STDOUT_FILENO, b"\n");
+    println!(rt; "{label}: refused {number}")
 }
 
-fn judge_sizes(largest: Image) {
-    judge(b"64 nodes and 96 channels", largest);
-    judge(b"65 nodes", sized(65, 96, 0));
-    judge(b"97 channels", sized(64, 97, 0));
-    judge(b"no nodes", with(largest, 0, 0));
-    judge(b"65 nodes and nothing else", cut(sized(65, 0, 0), 2));
-    judge(b"no bytes", cut(largest, 0));
-    judge(b"one byte", cut(largest, 1));
-    judge(b"a byte short", cut(largest, 801));
-    judge(b"a byte over", cut(largest, 803));
+fn judge_sizes(rt: &impl Print, largest: Image) -> io::Result<()> {
+    judge(rt, "64 nodes and 96 channels", largest)?;
+    judge(rt, "65 nodes", sized(65, 96, 0))?;
+    judge(rt, "97 channels", sized(64, 97, 0))?;
+    judge(rt, "no nodes", with(largest, 0, 0))?;
+    judge(rt, "65 nodes and nothing else", cut(sized(65, 0, 0), 2))?;
+    judge(rt, "no bytes", cut(largest, 0))?;
+    judge(rt, "one byte", cut(largest, 1))?;
+    judge(rt, "a byte short", cut(largest, 801))?;
+    judge(rt, "a byte over", cut(largest, 803))
 }
 
 // Node 63's kind is byte 65. Channel c's wire starts at byte 322 + 3 * c, its depths at 610 + 2 * c.
-fn judge_wires(largest: Image) {
-    judge(b"kind 0 at the last node", with(largest, 65, 0));
-    judge(b"kind 10 at the last node", with(largest, 65, 10));
-    judge(b"from node 64 on the last channel", with(largest, 607, 64));
-    judge(b"to node 64 on the last channel", with(largest, 608, 64));
-    judge(b"port 1 of a hold node", with(largest, 609, 1));
-    judge(b"port 0 of a count node", with(largest, 65, 1));
+fn judge_wires(rt: &impl Print, largest: Image) -> io::Result<()> {
+    judge(rt, "kind 0 at the last node", with(largest, 65, 0))?;
+    judge(rt, "kind 10 at the last node", with(largest, 65, 10))?;
     judge(
-        b"channel 95 feeds the port of channel 0",
+        rt,
+        "from node 64 on the last channel",
+        with(largest, 607, 64),
+    )?;
+    judge(rt, "to node 64 on the last channel", with(largest, 608, 64))?;
+    judge(rt, "port 1 of a hold node", with(largest, 609, 1))?;
+    judge(rt, "port 0 of a count node", with(largest, 65, 1))?;
+    judge(
+        rt,
+        "channel 95 feeds the port of channel 0",
         with(largest, 608, 0),
-    );
-    judge(b"port 1 of the last node not fed", with(largest, 65, 6));
+    )?;
+    judge(rt, "port 1 of the last node not fed", with(largest, 65, 6))
 }
 
-fn judge_depths(largest: Image) {
-    judge(b"9 stations on the last channel", with(largest, 800, 9));
-    judge(b"queue 0 on the last channel", with(largest, 801, 0));
-    judge(b"queue 9 on the last channel", with(largest, 801, 9));
-    judge(b"256 stations", sized(64, 96, 256));
-    judge(b"257 stations", sized(64, 96, 257));
+fn judge_depths(rt: &impl Print, largest: Image) -> io::Result<()> {
+    judge(rt, "9 stations on the last channel", with(largest, 800, 9))?;
+    judge(rt, "queue 0 on the last channel", with(largest, 801, 0))?;
+    judge(rt, "queue 9 on the last channel", with(largest, 801, 9))?;
+    judge(rt, "256 stations", sized(64, 96, 256))?;
+    judge(rt, "257 stations", sized(64, 96, 257))?;
     judge(
-        b"queue 0 on channel 0 and kind 0 at the last node",
+        rt,
+        "queue 0 on channel 0 and kind 0 at the last node",
         with(with(largest, 611, 0), 65, 0),
-    );
+    )?;
     judge(
-        b"9 stations and port 1 of the last node not fed",
+        rt,
+        "9 stations and port 1 of the last node not fed",
         with(with(largest, 610, 9), 65, 6),
-    );
+    )
 }
 
-fn main() {
+fn main(rt: HostRuntime) -> io::Result<()> {
     let largest = sized(64, 96, 0);
-    judge_sizes(largest);
-    judge_wires(largest);
-    judge_depths(largest);
+    judge_sizes(&rt, largest)?;
+    judge_wires(&rt, largest)?;
+    judge_depths(&rt, largest)
 }

@@ -4,7 +4,7 @@
 
 ghost use Rattle.std.specs.Prelude.{◌+◌, ◌^◌, ◌<◌, ◌≤◌};
 
-use libc::STDOUT_FILENO;
+use std::io;
 
 const TIMES: u32 = 100000;
 
@@ -36,11 +36,10 @@ fn count(image: &mut [u8]) -> u32 {
     accepted
 }
 
-fn main() {
+fn main(rt: HostRuntime) -> io::Result<()> {
     let mut image = [0u8; 803];
-    let input = input::read_to_end(&mut image);
+    let input = input::read_to_end(&mut rt.stdin(), &mut image);
     let kept = input.kept;
     let accepted = count(&mut image[..kept]);
-    io::print_decimal(STDOUT_FILENO, accepted as u64);
-    io::write_all(STDOUT_FILENO, b" accepted\n");
+    println!(rt; "{accepted} accepted")
 }
