@@ -6,8 +6,8 @@
 ghost use Rattle.std.specs.Prelude.{◌≤◌};
 
 use bench::Records;
-use libc::STDOUT_FILENO;
 use relay::Station;
+use std::io;
 
 #[derive(Clone, Copy)]
 struct Ran {
@@ -38,12 +38,11 @@ fn run() -> Ran {
     Ran { records, left }
 }
 
-fn main() {
+fn main(rt: HostRuntime) -> io::Result<()> {
     let ran = run();
     let records = ran.records;
     let last = records.stations[7];
-    io::print_decimal(STDOUT_FILENO, ran.left as u64);
-    io::write_all(STDOUT_FILENO, b" left, ");
-    io::print_decimal(STDOUT_FILENO, last.count as u64);
-    io::write_all(STDOUT_FILENO, b" in the last\n");
+    let left = ran.left;
+    let count = last.count;
+    println!(rt; "{left} left, {count} in the last")
 }

@@ -3,22 +3,22 @@
 use crate::cells::{Bytes, Cells, bits, least, plus, put, put_byte};
 use crate::compare::Rooms;
 use crate::{chip, compare, picture, rows, second};
-use libc::STDOUT_FILENO;
 use relay::Station;
 use state::State;
+use std::io;
 
 // ---- printing
 
-fn print(text: &[u8]) {
-    io::write_all(STDOUT_FILENO, text);
+fn print(rt: &impl Print, text: &[u8]) -> io::Result<()> {
+    rt.write_all(text)
 }
 
 // A minus sign if the value is negative, and how far it lies from 0.
-fn print_signed(value: i32) {
+fn print_signed(rt: &impl Print, value: i32) -> io::Result<()> {
     if value < 0 {
-        print(b"-");
+        print(rt, b"-")?;
     }
-    io::print_decimal(STDOUT_FILENO, output::magnitude(value));
+    rt.print(output::magnitude(value))
 }
 
 // ---- limits
@@ -67,38 +67,49 @@ fn limit_channels(image: &mut Bytes, nodes: u64, channels: u64, total: u64) {
     }
 }
 
-fn print_judged(label: &[u8], number: u8) {
-    print(label);
-    print(b": ");
-    io::print_decimal(STDOUT_FILENO, number as u64);
-    print(b"\n");
+fn print_judged(rt: &impl Print, label: &str, number: u8) -> io::Result<()> {
+    println!(rt; "{label}: {number}")
 }
 
-fn limit(cells: &mut Cells, label: &[u8], nodes: u64, channels: u64, total: u64) {
+fn limit(
+    rt: &impl Print,
+    cells: &mut Cells,
+    label: &str,
+    nodes: u64,
+    channels: u64,
+    total: u64,
+) -> io::Result<()> {
     let mut image = [0u8; 1024];
     let length = chip::image_length(nodes, channels);
     put_byte(&mut image, 0, nodes);
     put_byte(&mut image, 1, channels);
     limit_nodes(&mut image, nodes);
     limit_channels(&mut image, nodes, channels, total);
-    judge_limit(cells, label, &image, length);
+    judge_limit(rt, cells, label, &image, length)
 }
 
-fn judge_limit(cells: &mut Cells, label: &[u8], image: &Bytes, length: u64) {
+fn judge_limit(
+    rt: &impl Print,
+    cells: &mut Cells,
+    label: &str,
+    image: &Bytes,
+    length: u64,
+) -> io::Result<()> {
     let whole: &[u8] = image;
     let end = (length % 1024) as usize;
     if end <= whole.len() {
-        let number = compare::judge(cells, &whole[0..end]);
-        print_judged(label, number);
+        let number = compare::judge(rt, cells, &whole[0..end])?;
+        print_judged(rt, label, number)?;
     }
+    Ok(())
 }
 
-pub(crate) fn limits(cells: &mut Cells) {
-    limit(cells, b"64 nodes, 96 channels", 64, 96, 0);
-    limit(cells, b"65 nodes", 65, 96, 0);
-    limit(cells, b"97 channels", 64, 97, 0);
-    limit(cells, b"256 stations", 64, 96, 256);
-    limit(cells, b"257 stations", 64, 96, 257);
+pub(crate) fn limits(rt: &impl Print, cells: &mut Cells) -> io::Result<()> {
+    limit(rt, cells, "64 nodes, 96 channels", 64, 96, 0)?;
+    limit(rt, cells, "65 nodes", 65, 96, 0)?;
+    limit(rt, cells, "97 channels", 64, 97, 0)?;
+    limit(rt, cells, "256 stations", 64, 96, 256)?;
+    limit(rt, cells, "257 stations", 64, 96, 257)
 }
 
 // ---- table 1: tokens 1, 2, 3 and 4 come to a station in cycles 0, 1, 2 and 7
@@ -108,7 +119,13 @@ const COMING: [i32; 10] = [1, 2, 3, 0, 0, 0, 0, 4, 0, 0];
 const STOPS: [u8; 10] = [0, 0, 1, 1, 0, 0, 0, 1, 1, 0];
 
 // One cycle of the station bench; the second simulator has a row of one.
-fn bench_cycle(cells: &mut Cells, station: Station, coming: i32, stop: bool) -> Station {
+fn bench_cycle(
+    rt: &impl Print,
+    cells: &mut Cells,
+    station: Station,
+    coming: i32,
+    stop: bool,
+) -> io::Result<Station> {
     let valid = coming != 0;
     picture::draw_station(cells, 0, station);
     let number = rows::second_row(cells, 1, valid, bits(coming), stop);
@@ -116,95 +133,109 @@ fn bench_cycle(cells: &mut Cells, station: Station, coming: i32, stop: bool) -> 
     let answer = benched.answer;
     let after = benched.station;
     let text = [b' ', answer.letter];
-    print(&text);
-    rows::same_answer(cells, answer, number);
+    print(rt, &text)?;
+    rows::same_answer(rt, cells, answer, number)?;
     picture::draw_station(cells, 0, after);
-    compare::same_state(cells);
-    after
+    compare::same_state(rt, cells)?;
+    Ok(after)
 }
 
-pub(crate) fn table1(cells: &mut Cells) {
+pub(crate) fn table1(rt: &impl Print, cells: &mut Cells) -> io::Result<()> {
     let mut station = Station::empty();
-    print(b"table 1:");
+    print(rt, b"table 1:")?;
     for t in 0..10 {
         let coming = COMING[t];
         let stop = STOPS[t];
-        station = bench_cycle(cells, station, coming, stop == 1);
+        station = bench_cycle(rt, cells, station, coming, stop == 1)?;
     }
-    print(b"\n");
+    print(rt, b"\n")
 }
 
 // ---- figure 4
 
-fn print_place(letters: &[u8], values: &[i32], i: usize) {
+fn print_place(rt: &impl Print, letters: &[u8], values: &[i32], i: usize) -> io::Result<()> {
     if i < letters.len() {
-        print(b" ");
-        print(&letters[i..i + 1]);
+        print(rt, b" ")?;
+        print(rt, &letters[i..i + 1])?;
         if letters[i] == b'T' {
-            print_value(values, i);
+            print_value(rt, values, i)?;
         }
         if letters[i] == b'R' {
-            print_value(values, i);
+            print_value(rt, values, i)?;
         }
     }
+    Ok(())
 }
 
-fn print_value(values: &[i32], i: usize) {
+fn print_value(rt: &impl Print, values: &[i32], i: usize) -> io::Result<()> {
     if i < values.len() {
-        print_signed(values[i]);
+        print_signed(rt, values[i])?;
     }
+    Ok(())
 }
 
-fn print_cycle(image: &[u8], state: State, word: u64, t: usize) {
+fn print_cycle(rt: &impl Print, image: &[u8], state: State, word: u64, t: usize) -> io::Result<()> {
     let mut letters = [b'.'; 4];
     let mut values = [0i32; 4];
     engine::step(image, state, word, &mut letters, &mut values);
-    io::print_decimal(STDOUT_FILENO, t as u64);
-    print_place(&letters, &values, 0);
-    print_place(&letters, &values, 1);
-    print_place(&letters, &values, 2);
-    print_place(&letters, &values, 3);
-    print(b"\n");
+    print!(rt; "{t}")?;
+    print_place(rt, &letters, &values, 0)?;
+    print_place(rt, &letters, &values, 1)?;
+    print_place(rt, &letters, &values, 2)?;
+    print_place(rt, &letters, &values, 3)?;
+    print(rt, b"\n")
 }
 
-fn print_fired(state: State) {
-    print(b"fired");
+fn print_fired(rt: &impl Print, state: State) -> io::Result<()> {
+    print(rt, b"fired")?;
     for n in 0..5 {
         let node = state.nodes[n];
-        print(b" ");
-        io::print_decimal(STDOUT_FILENO, node.firings as u64);
+        let firings = node.firings;
+        print!(rt; " {firings}")?;
     }
-    print(b"\n");
+    print(rt, b"\n")
 }
 
-fn figure4_cycle(cells: &mut Cells, image: &[u8], state: State, word: u8, t: usize) -> State {
+fn figure4_cycle(
+    rt: &impl Print,
+    cells: &mut Cells,
+    image: &[u8],
+    state: State,
+    word: u8,
+    t: usize,
+) -> io::Result<State> {
     let rooms = Rooms {
         letters: 4,
         values: 4,
     };
-    print_cycle(image, state, word as u64, t);
-    let after = compare::step(cells, image, state, word as u64, rooms);
-    compare::arrivals(cells);
-    after
+    print_cycle(rt, image, state, word as u64, t)?;
+    let after = compare::step(rt, cells, image, state, word as u64, rooms)?;
+    compare::arrivals(rt, cells)?;
+    Ok(after)
 }
 
-fn figure4_cycles(cells: &mut Cells, image: &[u8], words: &[u8; 11]) {
-    let mut state = compare::fresh(cells, image);
+fn figure4_cycles(
+    rt: &impl Print,
+    cells: &mut Cells,
+    image: &[u8],
+    words: &[u8; 11],
+) -> io::Result<()> {
+    let mut state = compare::fresh(rt, cells, image)?;
     second::strict(image, cells, 63);
     let mut t: usize = 0;
     while t < 11 {
         let word = words[t];
-        state = figure4_cycle(cells, image, state, word, t);
+        state = figure4_cycle(rt, cells, image, state, word, t)?;
         t += 1;
     }
-    print_fired(state);
+    print_fired(rt, state)
 }
 
-pub(crate) fn figure4(cells: &mut Cells) {
+pub(crate) fn figure4(rt: &impl Print, cells: &mut Cells) -> io::Result<()> {
     let image =
         b"\x05\x04\x01\x01\x06\x02\x02\x0a\0\0\0\x64\0\0\0\0\0\0\0\0\0\0\0\0\0\0\0\0\x02\0\x01\x02\x01\x02\x03\0\x02\x04\0\0\x02\0\x02\0\x01\0\x01";
     let words = b"\x01\0\0\x10\0\0\x03\x03\x08\0\0";
-    print(b"figure 4\n");
+    print(rt, b"figure 4\n")?;
     put(cells, compare::NETLISTS, 0, 0);
-    figure4_cycles(cells, image, words);
+    figure4_cycles(rt, cells, image, words)
 }

@@ -20,25 +20,23 @@ mod verdict;
 mod words;
 
 use cells::{Cells, get};
-use libc::STDOUT_FILENO;
+use std::io;
 
 // ---- printing
 
-pub(crate) fn print_count(count: u64, name: &[u8]) {
-    io::print_decimal(STDOUT_FILENO, count);
-    io::write_all(STDOUT_FILENO, name);
+pub(crate) fn print_count(rt: &impl Print, count: u64, name: &str) -> io::Result<()> {
+    print!(rt; "{count}{name}")
 }
 
 // The counts of a group.
-fn print_group(label: &[u8], cells: &Cells) {
-    io::write_all(STDOUT_FILENO, label);
-    io::write_all(STDOUT_FILENO, b": ");
-    print_count(get(cells, compare::NETLISTS, 0), b" netlists, ");
-    print_count(get(cells, compare::STEPS, 0), b" steps, ");
-    print_count(get(cells, compare::RUNS, 0), b" runs, ");
-    print_count(get(cells, compare::REFUSALS, 0), b" refusals, ");
-    print_count(get(cells, compare::STRICT, 0), b" strict, ");
-    print_count(get(cells, compare::DIFFERENCES, 0), b" differences\n");
+fn print_group(rt: &impl Print, label: &str, cells: &Cells) -> io::Result<()> {
+    print!(rt; "{label}: ")?;
+    print_count(rt, get(cells, compare::NETLISTS, 0), " netlists, ")?;
+    print_count(rt, get(cells, compare::STEPS, 0), " steps, ")?;
+    print_count(rt, get(cells, compare::RUNS, 0), " runs, ")?;
+    print_count(rt, get(cells, compare::REFUSALS, 0), " refusals, ")?;
+    print_count(rt, get(cells, compare::STRICT, 0), " strict, ")?;
+    print_count(rt, get(cells, compare::DIFFERENCES, 0), " differences\n")
 }
 
 // A new group; how often each number was answered is counted over all groups.
@@ -49,63 +47,67 @@ pub(crate) fn clear_counts(cells: &mut Cells) {
 }
 
 // One number and how often it was answered, if it was.
-fn print_times(number: u64, times: u64) {
+fn print_times(rt: &impl Print, number: u64, times: u64) -> io::Result<()> {
     if 0 < times {
-        io::write_all(STDOUT_FILENO, b" ");
-        io::print_decimal(STDOUT_FILENO, number);
-        io::write_all(STDOUT_FILENO, b"x");
-        io::print_decimal(STDOUT_FILENO, times);
+        print!(rt; " {number}x{times}")?;
     }
+    Ok(())
 }
 
-fn print_numbers(cells: &Cells) {
-    io::write_all(STDOUT_FILENO, b"numbers:");
+fn print_numbers(rt: &impl Print, cells: &Cells) -> io::Result<()> {
+    print!(rt; "numbers:")?;
     for number in 1..32 {
-        print_times(number, get(cells, compare::NUMBERS, number));
+        print_times(rt, number, get(cells, compare::NUMBERS, number))?;
     }
-    io::write_all(STDOUT_FILENO, b"\n");
+    println!(rt;)
 }
 
 // ---- tests
 
 // Netlists of one shape; the dice begin anew.
-fn group(label: &[u8], cells: &mut Cells, shape: u64, netlists: u64) {
+fn group(
+    rt: &impl Print,
+    label: &str,
+    cells: &mut Cells,
+    shape: u64,
+    netlists: u64,
+) -> io::Result<()> {
     let mut bytes = [0u8; 1024];
     let mut words = [0u64; 60];
     clear_counts(cells);
     draft::seed(cells, shape);
     for i in 0..netlists {
-        trial::at_random(cells, &mut bytes, shape, &mut words);
+        trial::at_random(rt, cells, &mut bytes, shape, &mut words)?;
     }
-    print_group(label, cells);
+    print_group(rt, label, cells)
 }
 
-fn edges(cells: &mut Cells) {
-    figures::limits(cells);
-    figures::table1(cells);
-    figures::figure4(cells);
-    io::write_all(STDOUT_FILENO, b"edges: ");
-    print_count(get(cells, compare::DIFFERENCES, 0), b" differences\n");
+fn edges(rt: &impl Print, cells: &mut Cells) -> io::Result<()> {
+    figures::limits(rt, cells)?;
+    figures::table1(rt, cells)?;
+    figures::figure4(rt, cells)?;
+    print!(rt; "edges: ")?;
+    print_count(rt, get(cells, compare::DIFFERENCES, 0), " differences\n")
 }
 
 // The groups of netlists, and the rows of stations.
-fn small_groups(cells: &mut Cells) {
-    group(b"rings", cells, draft::RINGS, 100);
-    group(b"reconvergent paths", cells, draft::RECONVERGENT, 100);
-    group(b"self loops", cells, draft::SELF_LOOPS, 80);
-    group(b"fan-out", cells, draft::FAN_OUT, 80);
+fn small_groups(rt: &impl Print, cells: &mut Cells) -> io::Result<()> {
+    group(rt, "rings", cells, draft::RINGS, 100)?;
+    group(rt, "reconvergent paths", cells, draft::RECONVERGENT, 100)?;
+    group(rt, "self loops", cells, draft::SELF_LOOPS, 80)?;
+    group(rt, "fan-out", cells, draft::FAN_OUT, 80)
 }
 
-fn wide_groups(cells: &mut Cells) {
-    group(b"mixed", cells, draft::MIXED, 120);
-    group(b"large", cells, draft::LARGE, 40);
-    rows::group(cells);
+fn wide_groups(rt: &impl Print, cells: &mut Cells) -> io::Result<()> {
+    group(rt, "mixed", cells, draft::MIXED, 120)?;
+    group(rt, "large", cells, draft::LARGE, 40)?;
+    rows::group(rt, cells)
 }
 
-fn main() {
+fn main(rt: HostRuntime) -> io::Result<()> {
     let mut cells = [0u64; 18176];
-    edges(&mut cells);
-    small_groups(&mut cells);
-    wide_groups(&mut cells);
-    print_numbers(&cells);
+    edges(&rt, &mut cells)?;
+    small_groups(&rt, &mut cells)?;
+    wide_groups(&rt, &mut cells)?;
+    print_numbers(&rt, &cells)
 }

@@ -7,8 +7,8 @@ use crate::compare::same;
 use crate::draft::{one_in, roll};
 use crate::{chip, compare, damage, draft, picture, turn, verdict};
 use bench::{Answer, Records};
-use libc::STDOUT_FILENO;
 use relay::Station;
+use std::io;
 
 // How many rows there are, and the cycles of each.
 const ROWS: u64 = 100;
@@ -157,32 +157,45 @@ pub(crate) fn second_row(
 // ---- both
 
 // The answer of a bench, and what the second simulator's row showed.
-pub(crate) fn same_answer(cells: &mut Cells, answer: Answer, number: u64) {
-    compare::same_number(cells, compare::STEPS, answer.number, number);
+pub(crate) fn same_answer(
+    rt: &impl Print,
+    cells: &mut Cells,
+    answer: Answer,
+    number: u64,
+) -> io::Result<()> {
+    compare::same_number(rt, cells, compare::STEPS, answer.number, number)?;
     same(
+        rt,
         cells,
-        b"letter",
+        "letter",
         0,
         answer.letter as u64,
         get(cells, chip::LETTER, 0),
-    );
+    )?;
     same(
+        rt,
         cells,
-        b"value",
+        "value",
         0,
         bits(answer.value),
         get(cells, chip::SHOWN, 0),
-    );
+    )?;
     same(
+        rt,
         cells,
-        b"taken",
+        "taken",
         0,
         one_if(answer.taken),
         get(cells, TAKEN, 0),
-    );
+    )
 }
 
-fn row_cycle(cells: &mut Cells, records: Records, length: u64) -> Records {
+fn row_cycle(
+    rt: &impl Print,
+    cells: &mut Cells,
+    records: Records,
+    length: u64,
+) -> io::Result<Records> {
     let valid = one_in(cells, 2);
     let stop = one_in(cells, 2);
     let value = damage::roll_value(cells);
@@ -191,34 +204,36 @@ fn row_cycle(cells: &mut Cells, records: Records, length: u64) -> Records {
     let benched = bench::row_trial(records, (length % 16) as usize, valid, value, stop);
     let answer = benched.answer;
     let after = benched.records;
-    same_answer(cells, answer, number);
+    same_answer(rt, cells, answer, number)?;
     draw(cells, after);
-    compare::same_state(cells);
-    after
+    compare::same_state(rt, cells)?;
+    Ok(after)
 }
 
-fn row_cycles(cells: &mut Cells) {
+fn row_cycles(rt: &impl Print, cells: &mut Cells) -> io::Result<()> {
     let length = roll(cells, 10);
     let mut records = roll_records(cells);
     for t in 0..CYCLES {
-        records = row_cycle(cells, records, length);
+        records = row_cycle(rt, cells, records, length)?;
     }
     crate::cells::count(cells, compare::NETLISTS, 0);
+    Ok(())
 }
 
-fn all_rows(cells: &mut Cells) {
+fn all_rows(rt: &impl Print, cells: &mut Cells) -> io::Result<()> {
     for i in 0..ROWS {
-        row_cycles(cells);
+        row_cycles(rt, cells)?;
     }
+    Ok(())
 }
 
-pub(crate) fn group(cells: &mut Cells) {
+pub(crate) fn group(rt: &impl Print, cells: &mut Cells) -> io::Result<()> {
     crate::clear_counts(cells);
     draft::seed(cells, 6);
-    all_rows(cells);
-    io::write_all(STDOUT_FILENO, b"rows of stations: ");
-    crate::print_count(get(cells, compare::NETLISTS, 0), b" rows, ");
-    crate::print_count(get(cells, compare::STEPS, 0), b" steps, ");
-    crate::print_count(get(cells, compare::REFUSALS, 0), b" refusals, ");
-    crate::print_count(get(cells, compare::DIFFERENCES, 0), b" differences\n");
+    all_rows(rt, cells)?;
+    print!(rt; "rows of stations: ")?;
+    crate::print_count(rt, get(cells, compare::NETLISTS, 0), " rows, ")?;
+    crate::print_count(rt, get(cells, compare::STEPS, 0), " steps, ")?;
+    crate::print_count(rt, get(cells, compare::REFUSALS, 0), " refusals, ")?;
+    crate::print_count(rt, get(cells, compare::DIFFERENCES, 0), " differences\n")
 }

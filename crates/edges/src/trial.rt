@@ -6,6 +6,7 @@ use crate::draft::roll;
 use crate::words::List;
 use crate::{compare, damage, draft, second, words};
 use state::State;
+use std::io;
 
 // How many changed images a trial has at its end.
 const SPOILED: u8 = 4;
@@ -81,74 +82,123 @@ fn state_if(state: State, late: bool) -> State {
 }
 
 // A step with causes for some of the numbers 22, 12 and 13.
-fn refused_step(cells: &mut Cells, image: &[u8], state: State) {
+fn refused_step(rt: &impl Print, cells: &mut Cells, image: &[u8], state: State) -> io::Result<()> {
     let face = roll(cells, 8);
     let late = state_if(state, face % 2 == 1);
     let word = word_if(cells, face / 2 % 2 == 1, byte(image, 0));
     let rooms = rooms_if(cells, face / 4 % 2 == 1, byte(image, 1));
-    compare::step(cells, image, late, word, rooms);
+    compare::step(rt, cells, image, late, word, rooms)?;
+    Ok(())
 }
 
-fn changed_step(cells: &mut Cells, image: &[u8], state: State, word: u64) {
+fn changed_step(
+    rt: &impl Print,
+    cells: &mut Cells,
+    image: &[u8],
+    state: State,
+    word: u64,
+) -> io::Result<()> {
     let changed = damage::changed_state(state, cells);
-    compare::step(cells, image, changed, word, plenty());
+    compare::step(rt, cells, image, changed, word, plenty())?;
+    Ok(())
 }
 
 // The step of a changed image.
-fn spoiled_step(cells: &mut Cells, image: &[u8], state: State, word: u64) {
+fn spoiled_step(
+    rt: &impl Print,
+    cells: &mut Cells,
+    image: &[u8],
+    state: State,
+    word: u64,
+) -> io::Result<()> {
     let mut bytes = [0u8; 1024];
     let length = damage::spoiled(image, cells, &mut bytes);
-    step_part(cells, &bytes, length, state, word);
+    step_part(rt, cells, &bytes, length, state, word)
 }
 
-fn step_part(cells: &mut Cells, bytes: &Bytes, length: u64, state: State, word: u64) {
+fn step_part(
+    rt: &impl Print,
+    cells: &mut Cells,
+    bytes: &Bytes,
+    length: u64,
+    state: State,
+    word: u64,
+) -> io::Result<()> {
     let whole: &[u8] = bytes;
     let end = (length % 1024) as usize;
     if end <= whole.len() {
-        compare::step(cells, &whole[0..end], state, word, plenty());
+        compare::step(rt, cells, &whole[0..end], state, word, plenty())?;
     }
+    Ok(())
 }
 
 // Three of four cycles are followed by a call that leads nowhere.
-fn disturb(cells: &mut Cells, image: &[u8], state: State, word: u64) {
+fn disturb(
+    rt: &impl Print,
+    cells: &mut Cells,
+    image: &[u8],
+    state: State,
+    word: u64,
+) -> io::Result<()> {
     let face = roll(cells, 4);
     if face == 0 {
-        refused_step(cells, image, state);
+        refused_step(rt, cells, image, state)?;
     } else if face == 1 {
-        changed_step(cells, image, state, word);
+        changed_step(rt, cells, image, state, word)?;
     } else if face == 2 {
-        spoiled_step(cells, image, state, word);
+        spoiled_step(rt, cells, image, state, word)?;
     }
+    Ok(())
 }
 
-fn one_cycle(cells: &mut Cells, image: &[u8], state: State, word: u64) -> State {
+fn one_cycle(
+    rt: &impl Print,
+    cells: &mut Cells,
+    image: &[u8],
+    state: State,
+    word: u64,
+) -> io::Result<State> {
     let rooms = good_rooms(byte(image, 1), cells);
-    let after = compare::step(cells, image, state, word, rooms);
-    compare::arrivals(cells);
-    disturb(cells, image, after, word);
-    after
+    let after = compare::step(rt, cells, image, state, word, rooms)?;
+    compare::arrivals(rt, cells)?;
+    disturb(rt, cells, image, after, word)?;
+    Ok(after)
 }
 
-fn all_steps(cells: &mut Cells, image: &[u8], fresh: State, list: &List) -> State {
+fn all_steps(
+    rt: &impl Print,
+    cells: &mut Cells,
+    image: &[u8],
+    fresh: State,
+    list: &List,
+) -> io::Result<State> {
     let mut state = fresh;
     let mut t: usize = 0;
     while t < 60 {
         let word = list[t];
-        state = one_cycle(cells, image, state, word);
+        state = one_cycle(rt, cells, image, state, word)?;
         t += 1;
     }
-    state
+    Ok(state)
 }
 
 // ---- runs
 
 // The first words only: none, up to the end of the list.
-fn first_words(cells: &mut Cells, image: &[u8], state: State, list: &List, count: u64) {
+fn first_words(
+    rt: &impl Print,
+    cells: &mut Cells,
+    image: &[u8],
+    state: State,
+    list: &List,
+    count: u64,
+) -> io::Result<()> {
     let whole: &[u64] = list;
     let end = (count % 61) as usize;
     if end <= whole.len() {
-        compare::run(cells, image, state, &whole[0..end]);
+        compare::run(rt, cells, image, state, &whole[0..end])?;
     }
+    Ok(())
 }
 
 // A word that is refused takes some word's place.
@@ -160,98 +210,151 @@ fn spoil_word(cells: &mut Cells, list: &mut List, nodes: u64) {
 
 // Some words, and all, from two cycles before the last; all from a changed state; and all with one
 // exchanged for a word that is refused.
-fn refused_runs(cells: &mut Cells, image: &[u8], state: State, list: &mut List) {
+fn refused_runs(
+    rt: &impl Print,
+    cells: &mut Cells,
+    image: &[u8],
+    state: State,
+    list: &mut List,
+) -> io::Result<()> {
     let late = damage::with_cycles(state, 999998);
     let changed = damage::changed_state(state, cells);
     let count = roll(cells, 4);
-    first_words(cells, image, late, list, count);
-    compare::run(cells, image, late, list);
-    compare::run(cells, image, changed, list);
+    first_words(rt, cells, image, late, list, count)?;
+    compare::run(rt, cells, image, late, list)?;
+    compare::run(rt, cells, image, changed, list)?;
     spoil_word(cells, list, byte(image, 0));
-    compare::run(cells, image, state, list);
+    compare::run(rt, cells, image, state, list)
 }
 
 // ---- strict runs
 
-fn strict_runs(cells: &mut Cells, image: &[u8]) {
+fn strict_runs(rt: &impl Print, cells: &mut Cells, image: &[u8]) -> io::Result<()> {
     let nodes = byte(image, 0);
     let cycle = (roll(cells, 200) % 200) as u32;
-    compare::strict(cells, image, 0, 100);
-    compare::strict(cells, image, 1, room(nodes));
-    compare::strict(cells, image, cycle, 100);
-    compare::strict(cells, image, cycle, room(less_one(nodes)));
-    compare::strict(cells, image, 1000001, room(less_one(nodes)));
+    compare::strict(rt, cells, image, 0, 100)?;
+    compare::strict(rt, cells, image, 1, room(nodes))?;
+    compare::strict(rt, cells, image, cycle, 100)?;
+    compare::strict(rt, cells, image, cycle, room(less_one(nodes)))?;
+    compare::strict(rt, cells, image, 1000001, room(less_one(nodes)))
 }
 
 // ---- changed images
 
-fn changed_image(cells: &mut Cells, image: &[u8], state: State, list: &List) {
-    compare::judge(cells, image);
-    compare::fresh(cells, image);
-    compare::step(cells, image, state, 0, plenty());
-    compare::run(cells, image, state, list);
-    compare::strict(cells, image, 9, 100);
+fn changed_image(
+    rt: &impl Print,
+    cells: &mut Cells,
+    image: &[u8],
+    state: State,
+    list: &List,
+) -> io::Result<()> {
+    compare::judge(rt, cells, image)?;
+    compare::fresh(rt, cells, image)?;
+    compare::step(rt, cells, image, state, 0, plenty())?;
+    compare::run(rt, cells, image, state, list)?;
+    compare::strict(rt, cells, image, 9, 100)
 }
 
 // The first bytes of a buffer, as an image.
-fn changed_part(cells: &mut Cells, bytes: &Bytes, length: u64, state: State, list: &List) {
+fn changed_part(
+    rt: &impl Print,
+    cells: &mut Cells,
+    bytes: &Bytes,
+    length: u64,
+    state: State,
+    list: &List,
+) -> io::Result<()> {
     let whole: &[u8] = bytes;
     let end = (length % 1024) as usize;
     if end <= whole.len() {
-        changed_image(cells, &whole[0..end], state, list);
+        changed_image(rt, cells, &whole[0..end], state, list)?;
     }
+    Ok(())
 }
 
-fn changed_images(cells: &mut Cells, image: &[u8], state: State, list: &List) {
+fn changed_images(
+    rt: &impl Print,
+    cells: &mut Cells,
+    image: &[u8],
+    state: State,
+    list: &List,
+) -> io::Result<()> {
     let mut bytes = [0u8; 1024];
     for turn in 0..SPOILED {
         let length = damage::spoiled(image, cells, &mut bytes);
-        changed_part(cells, &bytes, length, state, list);
+        changed_part(rt, cells, &bytes, length, state, list)?;
     }
+    Ok(())
 }
 
 // ---- a netlist
 
 // The same words in steps and in a run.
-fn steps_and_run(cells: &mut Cells, image: &[u8], fresh: State, list: &mut List) -> State {
+fn steps_and_run(
+    rt: &impl Print,
+    cells: &mut Cells,
+    image: &[u8],
+    fresh: State,
+    list: &mut List,
+) -> io::Result<State> {
     let pattern = get(cells, compare::NETLISTS, 0);
     words::fill(list, cells, pattern);
     second::strict(image, cells, 63);
-    let last = all_steps(cells, image, fresh, list);
-    compare::run(cells, image, fresh, list);
-    compare::shown(cells);
-    compare::run_end(cells, last);
-    last
+    let last = all_steps(rt, cells, image, fresh, list)?;
+    compare::run(rt, cells, image, fresh, list)?;
+    compare::shown(rt, cells)?;
+    compare::run_end(rt, cells, last)?;
+    Ok(last)
 }
 
 // Some of the words once more, from the state after them.
-fn more_words(cells: &mut Cells, image: &[u8], last: State, list: &List) {
+fn more_words(
+    rt: &impl Print,
+    cells: &mut Cells,
+    image: &[u8],
+    last: State,
+    list: &List,
+) -> io::Result<()> {
     let count = roll(cells, 61);
-    compare::judge(cells, image);
-    first_words(cells, image, last, list, count);
+    compare::judge(rt, cells, image)?;
+    first_words(rt, cells, image, last, list, count)
 }
 
-fn netlist(cells: &mut Cells, image: &[u8], list: &mut List) {
-    let fresh = compare::fresh(cells, image);
-    let last = steps_and_run(cells, image, fresh, list);
-    more_words(cells, image, last, list);
-    refused_runs(cells, image, fresh, list);
-    strict_runs(cells, image);
-    changed_images(cells, image, last, list);
+fn netlist(rt: &impl Print, cells: &mut Cells, image: &[u8], list: &mut List) -> io::Result<()> {
+    let fresh = compare::fresh(rt, cells, image)?;
+    let last = steps_and_run(rt, cells, image, fresh, list)?;
+    more_words(rt, cells, image, last, list)?;
+    refused_runs(rt, cells, image, fresh, list)?;
+    strict_runs(rt, cells, image)?;
+    changed_images(rt, cells, image, last, list)
 }
 
 // The netlist that stands in the first bytes.
-fn first_bytes(cells: &mut Cells, bytes: &Bytes, length: u64, list: &mut List) {
+fn first_bytes(
+    rt: &impl Print,
+    cells: &mut Cells,
+    bytes: &Bytes,
+    length: u64,
+    list: &mut List,
+) -> io::Result<()> {
     let whole: &[u8] = bytes;
     let end = (length % 1024) as usize;
     if end <= whole.len() {
-        netlist(cells, &whole[0..end], list);
+        netlist(rt, cells, &whole[0..end], list)?;
     }
+    Ok(())
 }
 
 // A netlist of a shape, drawn at random.
-pub(crate) fn at_random(cells: &mut Cells, bytes: &mut Bytes, shape: u64, list: &mut List) {
+pub(crate) fn at_random(
+    rt: &impl Print,
+    cells: &mut Cells,
+    bytes: &mut Bytes,
+    shape: u64,
+    list: &mut List,
+) -> io::Result<()> {
     let length = draft::netlist(bytes, cells, shape);
-    first_bytes(cells, bytes, length, list);
+    first_bytes(rt, cells, bytes, length, list)?;
     crate::cells::count(cells, compare::NETLISTS, 0);
+    Ok(())
 }

@@ -5,10 +5,10 @@
 // for the one without stalls, `s` for the other.
 #![tactic(auto)]
 
-use libc::STDOUT_FILENO;
 use relay::Station;
 use shell::Queue;
 use state::{Node, State};
+use std::io;
 
 const CYCLES: usize = 100000;
 
@@ -108,36 +108,32 @@ fn end_of(state: State) -> End {
     End { firings, checksum }
 }
 
-fn show(label: &[u8], image: &[u8], words: &[u64]) {
+fn show(rt: &impl Print, label: &str, image: &[u8], words: &[u64]) -> io::Result<()> {
     let fresh = State::fresh(image);
     let ran = engine::run(image, fresh.state, words);
     let end = end_of(ran.state);
-    io::write_all(STDOUT_FILENO, label);
-    io::write_all(STDOUT_FILENO, b": ");
-    io::print_decimal(STDOUT_FILENO, ran.steps as u64);
-    io::write_all(STDOUT_FILENO, b" steps, number ");
-    io::print_decimal(STDOUT_FILENO, ran.number as u64);
-    io::write_all(STDOUT_FILENO, b", ");
-    io::print_decimal(STDOUT_FILENO, end.firings);
-    io::write_all(STDOUT_FILENO, b" firings, checksum ");
-    io::print_decimal(STDOUT_FILENO, end.checksum);
-    io::write_all(STDOUT_FILENO, b"\n");
+    let steps = ran.steps;
+    let number = ran.number;
+    let firings = end.firings;
+    let checksum = end.checksum;
+    println!(rt; "{label}: {steps} steps, number {number}, {firings} firings, checksum {checksum}")
 }
 
-fn show_asked(image: &[u8], asked: u8) {
+fn show_asked(rt: &impl Print, image: &[u8], asked: u8) -> io::Result<()> {
     let mut words = [0u64; CYCLES];
     if asked != b's' {
-        show(b"free", image, &words);
+        show(rt, "free", image, &words)?;
     }
     if asked != b'f' {
         fill(&mut words, netlist::nodes(image));
-        show(b"stalls", image, &words);
+        show(rt, "stalls", image, &words)?;
     }
+    Ok(())
 }
 
-fn main() {
+fn main(rt: HostRuntime) -> io::Result<()> {
     let mut bytes = [0u8; 803];
-    input::read_to_end(&mut bytes);
+    input::read_to_end(&mut rt.stdin(), &mut bytes);
     let asked = bytes[802];
-    show_asked(&bytes[0..802], asked);
+    show_asked(&rt, &bytes[0..802], asked)
 }

@@ -3,7 +3,7 @@
 // docs/PERFORMANCE.md times it as a whole: nearly all of its time is the run to cycle 1,000,000.
 #![tactic(auto)]
 
-use libc::STDOUT_FILENO;
+use std::io;
 
 // The run on the first `room` places.
 fn run(image: &[u8], cycle: u32, values: &mut [i32], room: usize) -> u8 {
@@ -14,58 +14,57 @@ fn run(image: &[u8], cycle: u32, values: &mut [i32], room: usize) -> u8 {
 }
 
 // A minus sign if the value is negative, and how far it lies from 0.
-fn print_signed(value: i32) {
+fn print_signed(rt: &impl Print, value: i32) -> io::Result<()> {
     if value < 0 {
-        io::write_all(STDOUT_FILENO, b"-");
+        print!(rt; "-")?;
     }
-    io::print_decimal(STDOUT_FILENO, output::magnitude(value));
+    rt.print(output::magnitude(value))
 }
 
-fn print_value(value: i32) {
-    io::write_all(STDOUT_FILENO, b" ");
-    print_signed(value);
+fn print_value(rt: &impl Print, value: i32) -> io::Result<()> {
+    print!(rt; " ")?;
+    print_signed(rt, value)
 }
 
-fn print_values(values: &[i32; 66]) {
+fn print_values(rt: &impl Print, values: &[i32; 66]) -> io::Result<()> {
     for i in 0..66 {
         let value = values[i];
-        print_value(value);
+        print_value(rt, value)?;
     }
+    Ok(())
 }
 
-fn show(label: &[u8], image: &[u8], cycle: u32, room: usize) {
+fn show(rt: &impl Print, label: &str, image: &[u8], cycle: u32, room: usize) -> io::Result<()> {
     let mut values = [7i32; 66];
     let number = run(image, cycle, &mut values, room);
-    io::write_all(STDOUT_FILENO, label);
-    io::write_all(STDOUT_FILENO, b": ");
-    io::print_decimal(STDOUT_FILENO, number as u64);
-    io::write_all(STDOUT_FILENO, b":");
-    print_values(&values);
-    io::write_all(STDOUT_FILENO, b"\n");
+    print!(rt; "{label}: {number}:")?;
+    print_values(rt, &values)?;
+    println!(rt;)
 }
 
-fn show_all(image: &[u8]) {
-    show(b"cycle 0", image, 0, 66);
-    show(b"cycle 1", image, 1, 66);
-    show(b"cycle 2", image, 2, 66);
-    show(b"64 places", image, 10, 64);
-    show(b"63 places", image, 10, 63);
-    show(b"no place", image, 10, 0);
-    show(b"cycle 1,000,000", image, 1000000, 66);
-    show(b"cycle 1,000,001", image, 1000001, 66);
-    show(b"cycle 4,294,967,295", image, 4294967295, 66);
-    show(b"cycle 1,000,001 and 63 places", image, 1000001, 63);
+fn show_all(rt: &impl Print, image: &[u8]) -> io::Result<()> {
+    show(rt, "cycle 0", image, 0, 66)?;
+    show(rt, "cycle 1", image, 1, 66)?;
+    show(rt, "cycle 2", image, 2, 66)?;
+    show(rt, "64 places", image, 10, 64)?;
+    show(rt, "63 places", image, 10, 63)?;
+    show(rt, "no place", image, 10, 0)?;
+    show(rt, "cycle 1,000,000", image, 1000000, 66)?;
+    show(rt, "cycle 1,000,001", image, 1000001, 66)?;
+    show(rt, "cycle 4,294,967,295", image, 4294967295, 66)?;
+    show(rt, "cycle 1,000,001 and 63 places", image, 1000001, 63)
 }
 
-fn main() {
+fn main(rt: HostRuntime) -> io::Result<()> {
     let mut bytes = [0u8; 803];
-    let input = input::read_to_end(&mut bytes);
+    let input = input::read_to_end(&mut rt.stdin(), &mut bytes);
     let kept = input.kept;
-    show_all(&bytes[0..kept]);
+    show_all(&rt, &bytes[0..kept])?;
     show(
-        b"no bytes, cycle 1,000,001 and no place",
+        &rt,
+        "no bytes, cycle 1,000,001 and no place",
         &bytes[0..0],
         1000001,
         0,
-    );
+    )
 }
