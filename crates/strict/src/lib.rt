@@ -133,6 +133,7 @@ fn write(from: Values, nodes: usize, values: &mut [i32])
 }
 
 // The number of a run that is lent an array of so many places: the image's, then 14, then 13.
+#[tactic(auto, unfolding(crate::specs::Answer::strict_number))]
 fn number(image: &[u8], cycle: u32, room: usize) -> u8
     ensures { result ≡ strict_number image.now cycle room }
 {
@@ -153,6 +154,7 @@ fn number(image: &[u8], cycle: u32, room: usize) -> u8
 // The values of all N nodes in a cycle, written to the first N places of `values`: 0, or a number and
 // nothing is written. The numbers are the judge's, then 14 for a cycle over 1,000,000, then 13 for
 // fewer than N places.
+#[tactic(auto, using(crate::specs::AnswerLaws::written_none))]
 pub fn strict(image: &[u8], cycle: u32, values: &mut [i32]) -> u8
     ensures value { result ≡ strict_number image.now cycle (length values.old) }
     ensures values_after { values.new ≡ strict_written image.now cycle values.old }
