@@ -17,7 +17,6 @@ ghost use Rattle.text.specs.Write.{Begins};
 ghost use Rattle.tracer.specs.Input.{image_of, words_of, input_number};
 ghost use Rattle.tracer.specs.Trace.{cycle_text, firings_of};
 
-use libc::{STDERR_FILENO, STDOUT_FILENO};
 use state::State;
 
 // The longest input that is not refused: an image of 802 bytes and 4,096 words. What is beyond is only
@@ -87,16 +86,16 @@ fn closing_line(image: &[u8], state: State) -> Line
 }
 
 // Whether the write was taken.
-fn print(line: Line) -> bool
+fn print(rt: &impl Print, line: Line) -> bool
     requires { IsPrefixLen line.length line.bytes }
 {
     let bytes = line.bytes;
     let length = line.length;
-    io::write_all(STDOUT_FILENO, &bytes[..length])
+    rt.write_all(&bytes[..length]).is_ok()
 }
 
 // A line for each word.
-fn print_cycles(image: &[u8], input: &[u8]) -> Printed
+fn print_cycles(rt: &impl Print, image: &[u8], input: &[u8]) -> Printed
     requires image_value { image.now ≡ image_of input.now }
     requires input_value { input_number input.now (length input.now) ≡ 0 }
     ensures { result.taken ≡ true → result.state ≡ after image.now (fresh_state image.now) (words_of input.now) }
@@ -110,7 +109,7 @@ fn print_cycles(image: &[u8], input: &[u8]) -> Printed
         let cycled = cycle_line(image, state, word);
         let line = cycled.line;
         state = cycled.state;
-        if !print(line) {
+        if !print(rt, line) {
             return Printed {
                 taken: false,
                 state,
@@ -122,41 +121,41 @@ fn print_cycles(image: &[u8], input: &[u8]) -> Printed
 }
 
 // The trace of an input that is not refused.
-fn print_trace(image: &[u8], input: &[u8])
+fn print_trace(rt: &impl Print, image: &[u8], input: &[u8])
     requires image_value { image.now ≡ image_of input.now }
     requires input_value { input_number input.now (length input.now) ≡ 0 }
 {
     let header = text::header();
-    if !io::write_all(STDOUT_FILENO, &header) {
+    if rt.write_all(&header).is_err() {
         return;
     }
-    let printed = print_cycles(image, input);
+    let printed = print_cycles(rt, image, input);
     if printed.taken {
         let state = printed.state;
-        print(closing_line(image, state));
+        print(rt, closing_line(image, state));
     }
 }
 
 // An input of `size` bytes, of which these are the first.
-fn trace(input: &[u8], size: u64)
+fn trace(rt: &impl Print, input: &[u8], size: u64)
     requires { length input.now ≡ min size 33570 }
 {
     let number = tracer::input_number(input, size);
     if number != 0 {
-        print(refusal_line(number));
+        print(rt, refusal_line(number));
         return;
     }
     let image = tracer::image_length(input);
-    print_trace(&input[..image], input);
+    print_trace(rt, &input[..image], input);
 }
 
-fn main() {
+fn main(rt: HostRuntime) {
     let mut bytes = [0u8; LONGEST];
-    let input = input::read_to_end(&mut bytes);
+    let input = input::read_to_end(&mut rt.stdin(), &mut bytes);
     if !input.complete {
-        io::write_all(STDERR_FILENO, b"trace: standard input cannot be read\n");
+        let _ = eprintln!(rt; "trace: standard input cannot be read");
         return;
     }
     let kept = input.kept;
-    trace(&bytes[..kept], input.length);
+    trace(&rt, &bytes[..kept], input.length);
 }
