@@ -1,6 +1,6 @@
 -- What a call for a cycle's line and one for the closing line have done, by equations with the definitions: what was returned, and what the lent slice
 -- holds after it. Each contract ensures its record as it stands here.
-use Rattle.std.specs.Prelude.{not, List, ◌≡◌, ℕ, eqb, length}
+use Rattle.std.specs.Prelude.{not, List, ◌≡◌, ℕ, eqb}
 use Rattle.laws.specs.Choice.{◌if◌else◌}
 use Rattle.state.specs.declared.State.{State}
 use Rattle.cycle.specs.Cycle.{state_after}
