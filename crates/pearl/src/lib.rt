@@ -66,12 +66,14 @@ fn halved(a: i32) -> i32
     a >> 1
 }
 
+#[tactic(auto, unfolding(crate::specs::Next::larger))]
 fn greater(a: i32, b: i32) -> i32
     ensures { result ≡ larger a b }
 {
     if a < b { b } else { a }
 }
 
+#[tactic(auto, unfolding(crate::specs::Next::choose))]
 fn chosen(a: i32, b: i32, c: i32) -> i32
     ensures { result ≡ choose a b c }
 {

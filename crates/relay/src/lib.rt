@@ -120,6 +120,7 @@ impl Station {
     }
 
     // The link that leaves it.
+    #[tactic(auto, using(crate::specs::StationLaws::held_none), unfolding(crate::specs::Link::link_of))]
     pub fn link(self) -> Link
         ensures { result ≡ link_of (held self) }
     {

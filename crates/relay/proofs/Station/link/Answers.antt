@@ -7,17 +7,12 @@ use lib.IntN.{pos}
 use lib.ListN.{length, get_or}
 use mir.Facts.{to_z-of_z}
 use Rattle.laws.specs.SignedLaws.{told}
-use Rattle.relay.specs.Link.{link_of}
-use Rattle.relay.specs.StationLaws.{held_none, link_held}
+use Rattle.relay.specs.StationLaws.{link_held}
 use Rattle.relay.proofs.Station.link.Goals.{Start}
 use Rattle.relay.proofs.Station.link.Goals as goal
 
 long : (c : Start) → length c.args.self.tokens ≡ 2
 long c = search rules
-
-pub returns-then-self-eq0 : goal.returns-then-self-eq0
-unfolding link_of
-returns-then-self-eq0 c = rw (held_none c.args.self (long (goal.at.returns-then-self-eq0 c).Start) c.if-self-eq0.true)
 
 pub returns : goal.returns
 returns c =
