@@ -5,7 +5,7 @@
 #
 # tests/trace/NAME.input is what the program reads, NAME.output what it has to print, byte for byte, with status 0 and
 # nothing on standard error. Inputs of some 4,096 words are put together here. What is expected was worked out by a
-# separate simulator, written from document 01 and not from the engine.
+# separate simulator, written from the rules and not from the engine.
 set -eu
 
 root=$(realpath "$(dirname "${BASH_SOURCE[0]}")/..")
