@@ -1,6 +1,6 @@
 #!/usr/bin/env bash
 # Tests the examples that stand on the library: bash tests/examples.sh [FOLDER]. The folder has libcapi.a, by default
-# target/staticlib; rt makes the library if it is not there. Needs cc, rustc 1.80 or later, and cmp. Prints a line for
+# crates/capi/out; rt makes the library if it is not there. Needs cc, rustc 1.80 or later, and cmp. Prints a line for
 # each failure and last 'N passed, M failed'; ends with 1 if any failed.
 #
 # examples/c/figure4.c has to print figure4.output. examples/rust/trace.rs has to print what the trace program prints,

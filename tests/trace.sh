@@ -1,17 +1,21 @@
 #!/usr/bin/env bash
-# Tests the trace program from outside: bash tests/trace.sh [PROGRAM], by default target/bin/trace.
-# Needs coreutils and cmp. Prints a line for each failure and last 'N passed, M failed'; ends with 1 if any failed.
+# Tests the trace program from outside: bash tests/trace.sh [PROGRAM], by default crates/trace/out/trace; rt makes that
+# one if it is not there. Needs coreutils and cmp. Prints a line for each failure and last 'N passed, M failed'; ends with
+# 1 if any failed.
 #
 # tests/trace/NAME.input is what the program reads, NAME.output what it has to print, byte for byte, with status 0 and
 # nothing on standard error. Inputs of some 4,096 words are put together here. What is expected was worked out by a
-# separate simulator, written from document 01 and not from the engine.
+# separate simulator, written from the rules and not from the engine.
 set -eu
 
 root=$(realpath "$(dirname "${BASH_SOURCE[0]}")/..")
-program=$(realpath -m "${1:-$root/target/bin/trace}")
+program=$(realpath -m "${1:-$root/crates/trace/out/trace}")
+if [ ! -x "$program" ] && [ $# -eq 0 ]; then
+    (cd "$root/crates/trace" && rt run < /dev/null)
+fi
 cd "$root/tests/trace"
 if [ ! -x "$program" ]; then
-    echo "$program is not there: rt check trace makes it"
+    echo "$program is not there"
     exit 1
 fi
 scratch=$(mktemp -d)

@@ -1,9 +1,9 @@
 /* Figure 4's netlist through the C boundary: its verdict, its trace line by line and its strict values in cycle 10. And
- * the station bench on table 1 of source document 004.
+ * the station bench on table 1 of the README.
  *
- *     rt staticlib capi
- *     cc -std=c11 -Iinclude -o target/figure4 examples/c/figure4.c target/staticlib/libcapi.a
- *     target/figure4 | cmp - examples/c/figure4.output
+ *     (cd crates/capi && rt lib); mkdir -p out
+ *     cc -std=c11 -Iinclude -o out/figure4 examples/c/figure4.c crates/capi/out/libcapi.a
+ *     out/figure4 | cmp - examples/c/figure4.output
  */
 #include <inttypes.h>
 #include <stdio.h>

@@ -1,7 +1,7 @@
 //! Channel Bench from Rust: safe functions over those of `include/channel_bench.h`.
 //!
 //! The functions of this module take and return Rust's own types. Those of [`raw`] mirror the header one to one, on
-//! slices of any length. Link with `-L target/staticlib`; `rt staticlib capi` makes the library there.
+//! slices of any length. Link with `-L crates/capi/out`; `rt lib` in crates/capi makes the library there.
 #![allow(dead_code)] // No program uses all of it.
 
 use std::fmt;

@@ -1,9 +1,9 @@
 //! The trace program on the library: an image and stall words of 8 bytes on standard input, their trace on standard
 //! output, or the line `refused` and a number.
 //!
-//!     rt staticlib capi
-//!     rustc --edition 2021 -C opt-level=3 -L target/staticlib -o target/trace examples/rust/trace.rs
-//!     target/trace < examples/figure4.input
+//!     (cd crates/capi && rt lib); mkdir -p out
+//!     rustc --edition 2021 -C opt-level=3 -L crates/capi/out -o out/trace examples/rust/trace.rs
+//!     out/trace < examples/figure4.input
 mod channel_bench;
 
 use channel_bench::{Refused, State, CLOSING_LINE_BYTES, CYCLE_LINE_BYTES, HEADER_LINE_BYTES};

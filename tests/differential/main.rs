@@ -62,7 +62,7 @@ fn main() {
     std::process::exit(i32::from(failed > 0));
 }
 
-/// What document 01 prints of figure 4, of table 1 in source document 004 and of the sizes at their limits.
+/// What is known of figure 4, of table 1 (README) and of the sizes at their limits.
 fn edges(group: &mut Group, _: &mut Random) {
     let image = figure4();
     let mut state = vec![0; STATE_BYTES];
@@ -412,7 +412,7 @@ fn bench_case(
         .same_lent("records", &lent, &after);
 }
 
-/// A list of calls from the fresh state, each with the state that the call before left, and what document 01's token
+/// A list of calls from the fresh state, each with the state that the call before left, and what the token
 /// rule says of them all. The second simulator has a part only in the strict streams.
 struct List {
     image: Vec<u8>,

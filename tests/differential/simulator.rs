@@ -1,4 +1,4 @@
-//! A second simulator, written from document 01 alone: what the library's answers are compared with. It is made to be
+//! A second simulator, written from the rules alone: what the library's answers are compared with. It is made to be
 //! read, not to be fast. Every place that holds tokens is a queue of its own, and a state of bytes is taken apart and
 //! put together only at the border.
 use std::collections::VecDeque;
