@@ -8,12 +8,8 @@ use Rattle.state.specs.State.{no_node}
 use Rattle.text.specs.PutLaws.{put_long, put_front}
 use Rattle.capi.specs.Bytes.{node_bytes, station_bytes}
 use Rattle.capi.specs.BytesLaws.{word_long, node_long, station_long, each_end, state_long, state-put}
-use Rattle.capi.proofs.write.put_state.Goals.{After-put_bytes-third, After-put_nodes-second, After-put_stations-fourth, After-put_word-first, Start}
+use Rattle.capi.proofs.write.put_state.Goals.{After-put_bytes-third, After-put_nodes-second, After-put_stations-fourth, After-put_word-first}
 use Rattle.capi.proofs.write.put_state.Goals as goal
-
--- there is a mark for each of the channels
-marks : (c : Start) → length c.args.state.pending ≡ 96
-marks c = search rules
 
 -- the places after the cycle count, the nodes, the marks and the stations
 after-word : (c : After-put_word-first) → c.put_word-first.result ≡ 4
@@ -25,7 +21,8 @@ after-nodes c =
 
 after-marks : (c : After-put_bytes-third) → c.put_bytes-third.result ≡ 612
 after-marks c =
-    omega (arith, after-nodes c.before.before.before.before.before, c.put_bytes-third.ensures.next, marks c.before.before.before.before.before.before.before.before.before.before.before.before.before.before.before.before)
+    let marks : length c.args.state.pending ≡ 96 = search rules in
+    omega (arith, after-nodes c.before.before.before.before.before, c.put_bytes-third.ensures.next, marks)
 
 after-stations : (c : After-put_stations-fourth) → c.put_stations-fourth.result ≡ 7524
 after-stations c =
@@ -37,7 +34,14 @@ put_nodes-second-requires c = omega (arith, after-word (goal.at.put_nodes-second
 
 pub put_bytes-third-requires : goal.put_bytes-third-requires
 put_bytes-third-requires c =
-    omega (arith, after-nodes (goal.at.put_bytes-third-requires c).After-put_nodes-second, marks (goal.at.put_bytes-third-requires c).Start, put_long c.put_word-first.ensures, put_long c.put_nodes-second.ensures)
+    let marks : length c.args.state.pending ≡ 96 = search rules in
+    omega (
+      arith,
+      after-nodes (goal.at.put_bytes-third-requires c).After-put_nodes-second,
+      marks,
+      put_long c.put_word-first.ensures,
+      put_long c.put_nodes-second.ensures,
+    )
 
 pub put_stations-fourth-requires : goal.put_stations-fourth-requires
 put_stations-fourth-requires c =
@@ -56,8 +60,9 @@ put_queues-requires c =
 
 pub returns : goal.returns
 returns c =
+    let marks : length c.args.state.pending ≡ 96 = search rules in
     let p =
-    state-put c.args.state (marks (goal.at.returns c).Start) c.put_word-first.ensures c.put_nodes-second.ensures c.put_bytes-third.ensures c.put_stations-fourth.ensures
+    state-put c.args.state marks c.put_word-first.ensures c.put_nodes-second.ensures c.put_bytes-third.ensures c.put_stations-fourth.ensures
     c.put_queues.ensures in
     let front = put_front (rw (state_long c.args.state) c.requires) p in
     rw (state_long c.args.state) at front
