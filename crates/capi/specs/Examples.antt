@@ -1,7 +1,7 @@
 -- The definitions here, computed: tokens at the ends of their range; figure 4's state after five cycles, and one with stations and tokens below 0
 -- after twelve; bytes of another length; rows of whole records and others.
 use mathlib.Core.List.{List, [], ◌∷◌, ◌++◌, map, flat_map}
-use Rattle.std.specs.Prelude.{◌≡◌, refl, ℕ, ◌+◌, pos, negsuc, take, drop, replicate}
+use Rattle.std.specs.Prelude.{◌≡◌, refl, ℕ, pos, negsuc, take, drop, replicate}
 use Rattle.laws.specs.Below.{all_below, any_below, sum_below, pick_below}
 use Rattle.laws.specs.Lists.{padded, zero_from}
 use Rattle.laws.specs.Signed.{signed}

@@ -19,9 +19,9 @@ use Rattle.bench.specs.declared.Answer.{Answer}
 use Rattle.bench.specs.declared.RowBenched.{RowBenched}
 use Rattle.bench.specs.declared.StationBenched.{StationBenched}
 use Rattle.bench.specs.Bench.{fits, bench_number, refusal, reply, bench_answer, bench_after}
-use Rattle.bench.specs.BenchLaws.{bench_long, length_bench, station-done}
+use Rattle.bench.proofs.BenchLaws.{bench_long, length_bench, station-done}
 use Rattle.bench.specs.ByValue.{station_benched, row_benched}
-use Rattle.bench.specs.Kept.{accepted_long, accepted-fits}
+use Rattle.bench.proofs.Kept.{accepted_long, accepted-fits}
 use Rattle.capi.specs.Bytes.{each, station_bytes, no_record, record_in, row_record, record_count, row_in}
 use Rattle.capi.specs.BytesLaws.{all_stored}
 use Rattle.capi.specs.Calls.{BenchCall}

@@ -1,5 +1,6 @@
 // Channel Bench for C and Rust: the functions of the static library, on numbers, bytes and arrays of
-// numbers. `include/channel_bench.h` declares them and has the layout of a state's bytes.
+// numbers. `include/channel_bench.h` declares them and has the layout of a state's bytes; crate `capi_c`
+// exports them.
 //
 // Each answers 0, or the number that refuses the call. What it answers beside that it stores through
 // its last references.
@@ -18,8 +19,7 @@ ghost use Rattle.capi.specs.Calls.{FreshCall, StepCall, RunCall, LineCall, Closi
 use state::State;
 
 // Judges an image.
-#[unsafe(no_mangle)]
-pub extern "C" fn channel_bench_judge(image: &[u8]) -> u8
+pub fn channel_bench_judge(image: &[u8]) -> u8
     ensures { result ≡ judge image.now }
 {
     netlist::judge(image)
@@ -27,8 +27,7 @@ pub extern "C" fn channel_bench_judge(image: &[u8]) -> u8
 
 // Writes an image's fresh state, or zeros if the image is refused, to the first bytes of `state`; if
 // there are too few, nothing, and the number is 13 if it is none of the judge's.
-#[unsafe(no_mangle)]
-pub extern "C" fn channel_bench_fresh(image: &[u8], state: &mut [u8]) -> u8
+pub fn channel_bench_fresh(image: &[u8], state: &mut [u8]) -> u8
     ensures { FreshCall image.now state.old result state.new }
 {
     let fresh = State::fresh(image);
@@ -42,8 +41,7 @@ pub extern "C" fn channel_bench_fresh(image: &[u8], state: &mut [u8]) -> u8
 
 // One cycle with a stall word: `state` is changed in place, and the letters and values of the cycle are
 // written.
-#[unsafe(no_mangle)]
-pub extern "C" fn channel_bench_step(
+pub fn channel_bench_step(
     image: &[u8],
     state: &mut [u8],
     word: u64,
@@ -61,8 +59,7 @@ pub extern "C" fn channel_bench_step(
 
 // A cycle for each word in order, up to the first that is refused: `state` is changed in place, and
 // `steps` is how many were made.
-#[unsafe(no_mangle)]
-pub extern "C" fn channel_bench_run(
+pub fn channel_bench_run(
     image: &[u8],
     state: &mut [u8],
     words: &[u64],
@@ -79,8 +76,7 @@ pub extern "C" fn channel_bench_run(
 }
 
 // Writes the strict system's values in a cycle.
-#[unsafe(no_mangle)]
-pub extern "C" fn channel_bench_strict(image: &[u8], cycle: u32, values: &mut [i32]) -> u8
+pub fn channel_bench_strict(image: &[u8], cycle: u32, values: &mut [i32]) -> u8
     ensures value { result ≡ strict_number image.now cycle (length values.old) }
     ensures values_after { values.new ≡ strict_written image.now cycle values.old }
 {
@@ -88,8 +84,7 @@ pub extern "C" fn channel_bench_strict(image: &[u8], cycle: u32, values: &mut [i
 }
 
 // The first line of every trace.
-#[unsafe(no_mangle)]
-pub extern "C" fn channel_bench_header_line(out: &mut [u8], length: &mut usize) -> u8
+pub fn channel_bench_header_line(out: &mut [u8], length: &mut usize) -> u8
     ensures { TextCall header out.old result length.new out.new }
 {
     let line = text::header();
@@ -102,8 +97,7 @@ pub extern "C" fn channel_bench_header_line(out: &mut [u8], length: &mut usize) 
 }
 
 // One cycle with a stall word: `state` is changed in place, and its line is written.
-#[unsafe(no_mangle)]
-pub extern "C" fn channel_bench_cycle_line(
+pub fn channel_bench_cycle_line(
     image: &[u8],
     state: &mut [u8],
     word: u64,
@@ -121,8 +115,7 @@ pub extern "C" fn channel_bench_cycle_line(
 }
 
 // The closing line after a state.
-#[unsafe(no_mangle)]
-pub extern "C" fn channel_bench_closing_line(
+pub fn channel_bench_closing_line(
     image: &[u8],
     state: &[u8],
     out: &mut [u8],
@@ -136,8 +129,7 @@ pub extern "C" fn channel_bench_closing_line(
 }
 
 // One cycle of a station on its own, changed in place.
-#[unsafe(no_mangle)]
-pub extern "C" fn channel_bench_station(
+pub fn channel_bench_station(
     station: &mut [u8],
     valid: bool,
     value: i32,
@@ -161,8 +153,7 @@ pub extern "C" fn channel_bench_station(
 }
 
 // One cycle of a row of stations on its own, changed in place.
-#[unsafe(no_mangle)]
-pub extern "C" fn channel_bench_row(
+pub fn channel_bench_row(
     row: &mut [u8],
     valid: bool,
     value: i32,
