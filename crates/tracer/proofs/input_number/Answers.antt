@@ -1,6 +1,7 @@
 -- `tracer::input_number` meets its contract. Assumes nothing.
 use mathlib.Core.Path.{◌≡◌}
-use Rattle.std.proofs.Common.{ne_eqb, eq-eqb, lt-ltb, le-ltb}
+use Rattle.std.proofs.Common.{arith}
+use Rattle.std.proofs.lemmas.Bool.Decides.{nat_tests}
 use Rattle.tracer.specs.Input.{number_from, input_number}
 use Rattle.tracer.specs.InputLaws.{image_taken}
 use Rattle.tracer.proofs.input_number.Goals.{After-any_above-above}
@@ -22,19 +23,19 @@ number c =
     )
 
 pub returns-then-early : goal.returns-then-early
-returns-then-early c = rw c.if-early.true at (number (goal.at.returns-then-early c).After-any_above-above)
+returns-then-early c = let n = number (goal.at.returns-then-early c).After-any_above-above in grind (arith, nat_tests)
 
 pub returns-then-ragged : goal.returns-then-ragged
-returns-then-ragged c = rw (c.if-early.false, ne_eqb _ 0 c.if-ragged.true) at (number (goal.at.returns-then-ragged c).After-any_above-above)
+returns-then-ragged c = let n = number (goal.at.returns-then-ragged c).After-any_above-above in grind (arith, nat_tests)
 
 pub returns-then-refused : goal.returns-then-refused
-returns-then-refused c = rw (c.if-early.false, eq-eqb _ 0 c.if-ragged.false, ne_eqb _ 0 c.if-refused.true) at (number (goal.at.returns-then-refused c).After-any_above-above)
+returns-then-refused c = let n = number (goal.at.returns-then-refused c).After-any_above-above in grind (arith, nat_tests)
 
 pub returns-then-long : goal.returns-then-long
-returns-then-long c = rw (c.if-early.false, eq-eqb _ 0 c.if-ragged.false, eq-eqb _ 0 c.if-refused.false, lt-ltb 4096 _ c.if-long.true) at (number (goal.at.returns-then-long c).After-any_above-above)
+returns-then-long c = let n = number (goal.at.returns-then-long c).After-any_above-above in grind (arith, nat_tests)
 
 pub returns-then-above : goal.returns-then-above
-returns-then-above c = rw (c.if-early.false, eq-eqb _ 0 c.if-ragged.false, eq-eqb _ 0 c.if-refused.false, le-ltb 4096 _ c.if-long.false, c.if-above.true) at (number (goal.at.returns-then-above c).After-any_above-above)
+returns-then-above c = let n = number (goal.at.returns-then-above c).After-any_above-above in grind (arith, nat_tests)
 
 pub returns : goal.returns
-returns c = rw (c.if-early.false, eq-eqb _ 0 c.if-ragged.false, eq-eqb _ 0 c.if-refused.false, le-ltb 4096 _ c.if-long.false, c.if-above.false) at (number (goal.at.returns c).After-any_above-above)
+returns c = let n = number (goal.at.returns c).After-any_above-above in grind (arith, nat_tests)
