@@ -1,4 +1,4 @@
-/* Channel Bench for C: the functions of libcapi.a, which `rt lib` in crates/capi proves and writes.
+/* Channel Bench for C: the functions of libcapi_c.a, which `rt lib` in crates/capi_c proves and writes.
  *
  * Every function answers a number: 0 if the call was accepted, else the number that refuses it. What it answers beside the
  * number it stores through its last pointers, in a refusal too (0, or for a run the steps done before it). A refused call
@@ -8,7 +8,7 @@
  * each is valid for the length that follows it (or for one value), that none is null, even with length 0, and that nothing
  * a function may write overlaps anything else that it is given. No function keeps a pointer, allocates or fails otherwise.
  *
- * What each answers is its contract in crates/capi/src/lib.rt, an equation with the definitions in the crates' specs/.
+ * What each answers is its contract in crates/capi_c/src/lib.rt, an equation with the definitions in the crates' specs/.
  */
 #ifndef CHANNEL_BENCH_H
 #define CHANNEL_BENCH_H
