@@ -87,6 +87,7 @@ pub fn four_bytes(image: &[u8], at: usize) -> u64
 }
 
 // The signed number of the same 32 bits. For other crates: to read tokens that are kept as bytes.
+#[tactic(auto, unfolding(laws::specs::Signed::signed))]
 pub fn as_signed(n: u32) -> i32
     ensures { result ≡ signed n }
 {
@@ -143,6 +144,7 @@ fn bad_sizes(n: u8, c: u8) -> bool
 }
 
 // The judge: 0 for an accepted image, else the first of the numbers 1 to 11 that has a cause in it.
+#[tactic(auto, unfolding(crate::specs::Judge::judge))]
 pub fn judge(image: &[u8]) -> u8
     ensures { result ≡ judge image.now }
 {

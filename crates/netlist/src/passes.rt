@@ -109,6 +109,7 @@ fn misses_port(image: &[u8], ports: &[bool; 192], n: u8) -> bool
 }
 
 // Number 8: whether a node misses a port.
+#[tactic(auto, unfolding(laws::specs::Below::any_below))]
 fn scan_ports(image: &[u8], ports: &[bool; 192]) -> bool
     requires { nodes image.now ≤ 64 }
     ensures { result ≡ any_below (misses image.now ports.now) (nodes image.now) }
@@ -122,6 +123,7 @@ fn scan_ports(image: &[u8], ports: &[bool; 192]) -> bool
 }
 
 // Numbers 9 to 11, from what was found of all channels.
+#[tactic(auto, unfolding(crate::specs::Passes::depth_number))]
 fn depth_number(found: Found) -> u8
     ensures { result ≡ depth_number found }
 {

@@ -3,7 +3,7 @@ use mathlib.Core.Bool.{◌||◌}
 use mathlib.Core.Path.{◌≡◌, sym, ◌∙◌}
 use Prim.Native.Nat.{◌+◌, ◌*◌}
 use native.Mathlib.Omega.{arith}
-use borrow.Author.Tests.{lt-ltb, le-ltb, ne_eqb}
+use borrow.Author.Tests.{le-ltb, ne_eqb}
 use lib.Dec.{ltb}
 use lib.ListN.{length}
 use Rattle.laws.specs.Range.{outside}
@@ -23,10 +23,6 @@ is-length : (c : After-wide-2) →
     2 + 5 * c.wide.result + 5 * c.wide-2.result ≡ 2 + 5 * nodes img + 5 * channels img
 is-length c =
     rw (c.wide-2.ensures, c.wide.ensures, c.channels-c.ensures, c.nodes-n.ensures)
-
-pub returns-then-image-lt2 : goal.returns-then-image-lt2
-unfolding judge
-returns-then-image-lt2 c = rw (lt-ltb (length c.args.image.now) 2 (omega arith))
 
 pub returns-then-bad_sizes : goal.returns-then-bad_sizes
 unfolding judge

@@ -5,7 +5,7 @@ use Prim.Native.Nat.{◌≤◌}
 use Rattle.laws.specs.Below.{any_below}
 use Rattle.laws.specs.Choice.{◌if◌else◌}
 use Rattle.netlist.specs.Image.{nodes, channels}
-use Rattle.netlist.specs.Judge.{judge, bad_kind, bad_wire, bad_port, fed_twice, not_fed}
+use Rattle.netlist.specs.Judge.{judge, bad_wire, bad_port, fed_twice, not_fed}
 use Rattle.netlist.specs.JudgeLaws.{sizes_ok}
 use Rattle.netlist.specs.Passes.{found_below, depth_number}
 use Rattle.netlist.specs.Ports.{Wired}

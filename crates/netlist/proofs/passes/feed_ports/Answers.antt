@@ -1,6 +1,6 @@
 -- `netlist::passes::feed_ports` meets its contract. The invariant: the marks so far are the definition's below i. Assumes nothing.
 use mathlib.Core.Path.{◌≡◌, refl}
-use Prim.Native.Nat.{◌<◌, ◌+◌, ◌*◌, ◌-◌}
+use Prim.Native.Nat.{◌<◌, ◌+◌, ◌*◌}
 use native.Mathlib.Numerals.{add-one}
 use native.Mathlib.Omega.{arith}
 use Rattle.laws.specs.Below.{any_below}

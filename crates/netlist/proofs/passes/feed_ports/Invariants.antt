@@ -1,5 +1,5 @@
 use mathlib.Core.Path.{◌≡◌}
-use Prim.Native.Nat.{◌≤◌, ◌-◌}
+use Prim.Native.Nat.{◌≤◌}
 use Rattle.netlist.specs.Passes.{fed_below}
 use Rattle.netlist.proofs.passes.feed_ports.Given as goal
 

@@ -1,6 +1,6 @@
 use mathlib.Core.Bool.{not, false}
 use mathlib.Core.Path.{◌≡◌}
-use Prim.Native.Nat.{◌≤◌, ◌-◌, ◌+◌}
+use Prim.Native.Nat.{◌≤◌, ◌+◌}
 use lib.ListN.{get_or}
 use Rattle.laws.specs.Below.{any_below}
 use Rattle.netlist.proofs.passes.misses_port.Given as goal

@@ -1,6 +1,5 @@
 -- `netlist::passes::scan_channels` meets its contract. The invariant: what was found so far is the definition's below i. Assumes nothing.
 use mathlib.Core.Path.{refl}
-use Prim.Native.Nat.{◌-◌}
 use native.Mathlib.Omega.{arith}
 use Rattle.laws.specs.Below.{any_below, sum_below}
 use Rattle.netlist.specs.Passes.{found_below}

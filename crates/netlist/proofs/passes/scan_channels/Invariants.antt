@@ -1,4 +1,4 @@
-use Prim.Native.Nat.{◌≤◌, ◌-◌}
+use Prim.Native.Nat.{◌≤◌}
 use Rattle.netlist.specs.Passes.{Passed}
 use Rattle.netlist.proofs.passes.scan_channels.Given as goal
 

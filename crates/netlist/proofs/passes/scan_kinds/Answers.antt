@@ -1,6 +1,5 @@
 -- `netlist::passes::scan_kinds` meets its contract. The invariant: what was found so far is the definition's below i. Assumes nothing.
 use mathlib.Core.Path.{refl}
-use Prim.Native.Nat.{◌-◌}
 use native.Mathlib.Numerals.{add-one}
 use native.Mathlib.Omega.{arith}
 use Rattle.laws.specs.Below.{any_below}

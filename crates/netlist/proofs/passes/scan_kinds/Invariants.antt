@@ -1,5 +1,5 @@
 use mathlib.Core.Path.{◌≡◌}
-use Prim.Native.Nat.{◌≤◌, ◌-◌}
+use Prim.Native.Nat.{◌≤◌}
 use Rattle.laws.specs.Below.{any_below}
 use Rattle.netlist.specs.Judge.{bad_kind}
 use Rattle.netlist.proofs.passes.scan_kinds.Given as goal
