@@ -59,12 +59,7 @@ pub fn channel_bench_step(
 
 // A cycle for each word in order, up to the first that is refused: `state` is changed in place, and
 // `steps` is how many were made.
-pub fn channel_bench_run(
-    image: &[u8],
-    state: &mut [u8],
-    words: &[u64],
-    steps: &mut u32,
-) -> u8
+pub fn channel_bench_run(image: &[u8], state: &mut [u8], words: &[u64], steps: &mut u32) -> u8
     ensures { RunCall image.now state.old words.now result steps.new state.new }
 {
     let ran = engine::run(image, read::state_in(state), words);

@@ -1,6 +1,7 @@
 -- `capi::channel_bench_header_line` meets its contract. Assumes nothing.
 use native.Mathlib.Omega.{arith}
 use mathlib.Core.Path.{◌≡◌, refl}
+use Prim.Native.Nat.{◌≤◌}
 use lib.ListN.{length}
 use Rattle.text.specs.Ascii.{ascii}
 use Rattle.text.specs.Trace.{header}
@@ -13,11 +14,9 @@ unfolding header ascii
 long = refl
 
 pub returns-then-out-lt13 : goal.returns-then-out-lt13
-returns-then-out-lt13 c =
-    let a = c.args in
-    text-called (write_none header a.out.now (omega (arith, long, c.if-out-lt13.true)))
+returns-then-out-lt13 c = text-called (write_none header c.args.out.now (omega (arith, long)))
 
 pub returns : goal.returns
 returns c =
-    text-called (write_made header c.args.out.now _ _ (omega (arith, long, c.if-out-lt13.false))
-    (rw c.header-line.ensures at c.put_bytes.ensures))
+    let room : length header ≤ length c.args.out.now = omega (arith, long) in
+    text-called (write_made header c.args.out.now _ _ room (rw c.header-line.ensures at c.put_bytes.ensures))

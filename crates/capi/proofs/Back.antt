@@ -17,7 +17,7 @@ use Rattle.capi.specs.BytesLaws.{state_long}
 use Rattle.capi.specs.Calls.{fresh_number, fresh_over, state_left, FreshCall, StepCall, RunCall}
 use Rattle.capi.specs.CallsLaws.{state-stored}
 use Rattle.capi.specs.Typed.{Typed}
-use Rattle.capi.specs.BackLaws.{places_back, run_still}
+use Rattle.capi.proofs.BackLaws.{places_back, run_still}
 
 -- the bytes of a state are that state
 pub state_back : (s : State) → Typed s → state_in (state_bytes s) ≡ s
