@@ -1,6 +1,6 @@
 #!/usr/bin/env bash
-# Tests the examples that stand on the library: bash tests/examples.sh [FOLDER]. The folder has libcapi_c.a, by default
-# crates/capi_c/out; rt makes the library if it is not there. Needs cc, rustc 1.80 or later, and cmp. Prints a line for
+# Tests the examples that stand on the library: bash tests/examples.sh [FOLDER]. The folder has libcapi.a, by default
+# out/; rt makes the library if it is not there. Needs cc, rustc 1.80 or later, and cmp. Prints a line for
 # each failure and last 'N passed, M failed'; ends with 1 if any failed.
 #
 # examples/c/figure4.c has to print figure4.output. examples/rust/trace.rs has to print what the trace program prints,
@@ -30,7 +30,7 @@ check() {
 }
 
 cc -std=c11 -O2 -Wall -Wextra -pedantic -Werror -Iinclude \
-    -o "$scratch/figure4" examples/c/figure4.c "$library/libcapi_c.a"
+    -o "$scratch/figure4" examples/c/figure4.c "$library/libcapi.a"
 check examples/c/figure4.c examples/c/figure4.output "$scratch/figure4"
 
 rustc --edition 2021 -C opt-level=3 -D warnings -L "$library" -o "$scratch/trace" examples/rust/trace.rs

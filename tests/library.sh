@@ -1,11 +1,13 @@
-# What the scripts share that use the library. To be sourced, with the folder that has libcapi_c.a or with an empty word,
-# which stands for crates/capi_c/out. Sets root, library and scratch, goes to the root folder, and makes the library there
-# if it is not there yet.
+# What the scripts share that use the library. To be sourced, with the folder that has libcapi.a or with an empty word,
+# which stands for out/. Sets root, library and scratch, goes to the root folder, and makes the library in out/ if it is
+# not there yet: the archive of crate capi_c, under its C callers' name for it.
 root=$(realpath "$(dirname "${BASH_SOURCE[0]}")/..")
-library=$(realpath -m "${1:-$root/crates/capi_c/out}")
+library=$(realpath -m "${1:-$root/out}")
 cd "$root"
-if [ -z "${1:-}" ] && [ ! -f "$library/libcapi_c.a" ]; then
+if [ -z "${1:-}" ] && [ ! -f "$library/libcapi.a" ]; then
     (cd crates/capi_c && rt lib)
+    mkdir -p out
+    cp crates/capi_c/out/libcapi_c.a out/libcapi.a
 fi
 scratch=$(mktemp -d)
 trap 'rm -rf "$scratch"' EXIT

@@ -1,6 +1,6 @@
 #!/usr/bin/env bash
 # Times the library against ordinary Rust and prints a table: bash docs/src/benchmark.sh [FOLDER]. The folder has
-# libcapi_c.a, by default crates/capi_c/out; rt makes the library if it is not there. Needs rustc 1.88 or later.
+# libcapi.a, by default out/; rt makes the library if it is not there. Needs rustc 1.88 or later.
 set -eu
 
 source "$(dirname "${BASH_SOURCE[0]}")/../../tests/library.sh" "${1:-}"

@@ -1,8 +1,8 @@
 /* Figure 4's netlist through the C boundary: its verdict, its trace line by line and its strict values in cycle 10. And
  * the station bench on table 1 of the README.
  *
- *     (cd crates/capi_c && rt lib); mkdir -p out
- *     cc -std=c11 -Iinclude -o out/figure4 examples/c/figure4.c crates/capi_c/out/libcapi_c.a
+ *     (cd crates/capi_c && rt lib); mkdir -p out; cp crates/capi_c/out/libcapi_c.a out/libcapi.a
+ *     cc -std=c11 -Iinclude -o out/figure4 examples/c/figure4.c out/libcapi.a
  *     out/figure4 | cmp - examples/c/figure4.output
  */
 #include <inttypes.h>

@@ -1,7 +1,7 @@
 //! Channel Bench from Rust: safe functions over those of `include/channel_bench.h`.
 //!
 //! The functions of this module take and return Rust's own types. Those of [`raw`] mirror the header one to one, on
-//! slices of any length. Link with `-L crates/capi_c/out`; `rt lib` in crates/capi_c makes the library there.
+//! slices of any length. Link with the folder of `libcapi.a`, as `-L out`; it is the archive that `rt lib` in crates/capi_c makes.
 #![allow(dead_code)] // No program uses all of it.
 
 use std::fmt;
@@ -200,7 +200,7 @@ pub mod raw {
     // What answers are stored over, so that one that is not stored shows.
     const UNSET: u8 = 0xff;
 
-    #[link(name = "capi_c", kind = "static")]
+    #[link(name = "capi", kind = "static")]
     extern "C" {
         fn channel_bench_judge(image: *const u8, image_len: usize) -> u8;
         fn channel_bench_fresh(image: *const u8, image_len: usize, state: *mut u8, state_len: usize) -> u8;

@@ -1,8 +1,8 @@
 //! The trace program on the library: an image and stall words of 8 bytes on standard input, their trace on standard
 //! output, or the line `refused` and a number.
 //!
-//!     (cd crates/capi_c && rt lib); mkdir -p out
-//!     rustc --edition 2021 -C opt-level=3 -L crates/capi_c/out -o out/trace examples/rust/trace.rs
+//!     (cd crates/capi_c && rt lib); mkdir -p out; cp crates/capi_c/out/libcapi_c.a out/libcapi.a
+//!     rustc --edition 2021 -C opt-level=3 -L out -o out/trace examples/rust/trace.rs
 //!     out/trace < examples/figure4.input
 mod channel_bench;
 
