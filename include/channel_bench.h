@@ -1,4 +1,5 @@
-/* Channel Bench for C: the functions of libcapi.a, the archive that `rt lib` in crates/capi_c proves and writes.
+/* Channel Bench for C: the functions of libcapi.a. `rt lib` in crates/capi_c proves it and writes it, as
+ * crates/capi_c/out/libcapi_c.a.
  *
  * Every function answers a number: 0 if the call was accepted, else the number that refuses it. What it answers beside the
  * number it stores through its last pointers, in a refusal too (0, or for a run the steps done before it). A refused call

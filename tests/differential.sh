@@ -1,6 +1,6 @@
 #!/usr/bin/env bash
 # Compares the library with a second simulator on pseudo-random inputs: bash tests/differential.sh [FOLDER [SEED]]. The
-# folder has libcapi.a, by default out/; rt makes the library if it is not there. Needs rustc 1.80 or later.
+# folder has libcapi.a, by default out/, where the archive of crate capi_c is put first (rt makes it). Needs rustc 1.80 or later.
 # The last line is 'N passed, M failed', a group of inputs being one test; ends with 1 if any failed.
 set -eu
 

@@ -1,6 +1,6 @@
 #!/usr/bin/env bash
 # Times the library against ordinary Rust and prints a table: bash docs/src/benchmark.sh [FOLDER]. The folder has
-# libcapi.a, by default out/; rt makes the library if it is not there. Needs rustc 1.88 or later.
+# libcapi.a, by default out/, where the archive of crate capi_c is put first (rt makes it). Needs rustc 1.88 or later.
 set -eu
 
 source "$(dirname "${BASH_SOURCE[0]}")/../../tests/library.sh" "${1:-}"
