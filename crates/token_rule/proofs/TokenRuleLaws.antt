@@ -1,4 +1,4 @@
--- Demand 3, the theorem. Assumes nothing.
+-- The token rule, the theorem. Assumes nothing.
 use Rattle.std.specs.Prelude.{Bool, false, not, List, [], ◌∷◌, ◌++◌, ◌≢◌, ◌≡◌, ℕ, ◌+◌, ◌<◌, ◌≤◌, eqb, ltb}
 use Rattle.std.proofs.Math.Bool.{true}
 use Rattle.std.proofs.Common.{append-nil, sym, ap, subst, ◌∙◌, zero-add, arith, eqb-true, eq-eqb, ne_eqb, length-append}
