@@ -1,4 +1,4 @@
--- The words of demand 3's last part: "wherever R + 1 cycles of the list follow one another, every node furthest behind in firings at their start, and
+-- The words of the token rule's last part: "wherever R + 1 cycles of the list follow one another, every node furthest behind in firings at their start, and
 -- stalled in none of them, fires at least once in them."
 use Rattle.std.specs.Prelude.{false, List, [], ◌∷◌, ◌≡◌, ℕ, ◌<◌, ◌≤◌}
 use Rattle.laws.specs.Below.{most_below}

@@ -1,4 +1,4 @@
--- Demand 3, the statement: what the token rule says of a list of calls, in document 01's words and order. `TokenRuleLaws` proves it of every list of
+-- The statement: what the token rule says of a list of calls, in its own words and order. `TokenRuleLaws` proves it of every list of
 -- steps and runs that did what their contracts ensure, from the fresh state of every accepted image.
 use Rattle.std.specs.Prelude.{true, not, List, ◌∷◌, ◌++◌, ◌↔◌, ◌≢◌, ◌≡◌, ℕ, suc, ◌+◌, ◌<◌, ◌≤◌, eqb, ltb, length, drop}
 use Rattle.laws.specs.Choice.{◌if◌else◌}

@@ -1,2 +1,2 @@
-// Demand 3, the token rule. There is no code here: the theorem and its laws stand under specs/.
+// The token rule. There is no code here: the statement stands under specs/, the theorem and most of its laws under proofs/.
 #![tactic(auto)]

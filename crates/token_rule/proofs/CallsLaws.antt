@@ -14,9 +14,9 @@ use Rattle.state.specs.declared.State.{State}
 use Rattle.cycle.specs.Cycle.{state_after, after}
 use Rattle.state.specs.Fitting.{Fitting}
 use Rattle.engine.specs.Answer.{sets_above}
-use Rattle.token_rule.specs.CyclesLaws.{after-append, cycles-after, fitting-after}
+use Rattle.token_rule.proofs.CyclesLaws.{after-append, cycles-after, fitting-after}
 use Rattle.token_rule.specs.Calls.{Call, step, run, returned, Done, Chain, last_state, goes, roomy, makes, run_cycles, cycles_in, cycles_of}
-use Rattle.token_rule.specs.AnswersLaws.{step-done, run-done}
+use Rattle.token_rule.proofs.AnswersLaws.{step-done, run-done}
 
 -- ---- a chain, cut in two
 pub chain_first : (img : List ℕ) (before later : List Call) (s : State) → Chain img s (before ++ later) → Chain img s before

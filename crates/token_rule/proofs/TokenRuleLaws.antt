@@ -1,4 +1,4 @@
--- Demand 3, the theorem. Assumes nothing.
+-- The token rule, the theorem. Assumes nothing.
 use Rattle.std.specs.Prelude.{Bool, false, not, List, [], ◌∷◌, ◌++◌, ◌≢◌, ◌≡◌, ℕ, ◌+◌, ◌<◌, ◌≤◌, eqb, ltb}
 use Rattle.std.proofs.Math.Bool.{true}
 use Rattle.std.proofs.Common.{append-nil, sym, ap, subst, ◌∙◌, zero-add, arith, eqb-true, eq-eqb, ne_eqb, length-append}
@@ -18,15 +18,15 @@ use Rattle.state.specs.FittingLaws.{fitting-fresh}
 use Rattle.engine.specs.Answer.{sets_above}
 use Rattle.cycle.specs.Cycle.{after}
 use Rattle.token_rule.specs.Cycles.{fired_in}
-use Rattle.token_rule.specs.CyclesLaws.{cycles-after, firings_after, fitting-after, sound-after}
+use Rattle.token_rule.proofs.CyclesLaws.{cycles-after, firings_after, fitting-after, sound-after}
 use Rattle.token_rule.specs.Safety.{Sound}
 use Rattle.token_rule.specs.SafetyLaws.{sound-fresh}
-use Rattle.token_rule.specs.ArrivalsLaws.{arrivals-fresh}
+use Rattle.token_rule.proofs.ArrivalsLaws.{arrivals-fresh}
 use Rattle.token_rule.specs.Progress.{Furthest}
-use Rattle.token_rule.specs.ProgressLaws.{progress}
+use Rattle.token_rule.proofs.ProgressLaws.{progress}
 use Rattle.token_rule.specs.Calls.{Step, Run, Call, step, run, number_of, Done, Chain, last_state, makes, run_cycles, cycles_of}
-use Rattle.token_rule.specs.AnswersLaws.{chosen, SteppedWell, step-done, RanWell, run-done}
-use Rattle.token_rule.specs.CallsLaws.{chain_first, chain_second, cycles_placed, cycles_few, chain-state}
+use Rattle.token_rule.proofs.AnswersLaws.{chosen, SteppedWell, step-done, RanWell, run-done}
+use Rattle.token_rule.proofs.CallsLaws.{chain_first, chain_second, cycles_placed, cycles_few, chain-state}
 use Rattle.token_rule.specs.TokenRule.{TokenRule}
 
 -- a number of a step is neither 21 nor one of 1 to 11; nor is a run's, which is one of those where q holds

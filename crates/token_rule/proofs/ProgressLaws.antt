@@ -89,7 +89,7 @@ module _ (img : List ℕ) (a : Accepted img) (n : ℕ) (there : n < nodes img) w
         made c h q zero l k = omega (arith, entered_source img s c, behind (from img c) (a.wires c h).0)
         made c h q (suc j) l k = absurd (not-suc-le-zero l)
 
--- THE PROGRESS PART OF DEMAND 3
+-- the progress part of the token rule
 pub progress :
     (img : List ℕ) → Accepted img → (s : State) → Steady img s → (n : ℕ) → n < nodes img → Furthest img s n
     → (words : List ℕ) → length words ≡ suc (most_stations img) → Awake n words → 1 ≤ fired_in img s words n
