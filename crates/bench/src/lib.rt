@@ -68,8 +68,8 @@ pub fn station_bench(s: &mut Station, valid: bool, value: i32, stop: bool) -> An
 // records or over 8, then 21 as above: the row stays as it was.
 //
 // The row is copied out, worked by value, and stored back only if it was accepted. A row that is too
-// long is not copied: its number is 15 whatever it holds. Both loops stand here, since a function of
-// its own for either would hold the reference too.
+// long is not copied: its number is 15 whatever it holds. Both loops stand here, beside the contract of
+// what is lent.
 pub fn row_bench(row: &mut [Station], valid: bool, value: i32, stop: bool) -> Answer
     ensures { BenchDone row.old valid value stop result row.new }
 {
@@ -95,8 +95,7 @@ pub fn row_bench(row: &mut [Station], valid: bool, value: i32, stop: bool) -> An
     out.answer
 }
 
-// The station bench for a caller that has its station by value: a copy is lent. Whoever calls it holds
-// no reference to a struct, and so needs no proof by hand.
+// The station bench for a caller that has its station by value: a copy is lent.
 pub fn station_trial(station: Station, valid: bool, value: i32, stop: bool) -> StationBenched
     ensures { result ≡ station_benched station valid value stop }
 {

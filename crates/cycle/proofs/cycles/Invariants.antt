@@ -2,7 +2,6 @@ use mathlib.Core.Path.{◌≡◌}
 use Prim.Native.Nat.{ℕ, ◌≤◌, ◌+◌, ◌*◌, ◌-◌}
 use mathlib.Core.List.{List}
 use lib.ListN.{length, take}
-use Rattle.netlist.specs.Image.{nodes, channels}
 use Rattle.relay.specs.Link.{token}
 use Rattle.state.specs.declared.State.{State}
 use Rattle.state.specs.Fitting.{Fitting}

@@ -1,5 +1,5 @@
 use mathlib.Core.Path.{◌≡◌}
-use Prim.Native.Nat.{◌≤◌, ◌-◌}
+use Prim.Native.Nat.{◌≤◌}
 use Rattle.cycle.specs.Parts.{kinds_below}
 use Rattle.cycle.proofs.kinds_of.Given as goal
 

@@ -1,7 +1,6 @@
 use mathlib.Core.Path.{◌≡◌}
-use Prim.Native.Nat.{◌≤◌, ◌-◌}
+use Prim.Native.Nat.{◌≤◌}
 use Rattle.laws.specs.Table.{table_over}
-use Rattle.netlist.specs.Image.{channels}
 use Rattle.cycle.specs.Cycle.{seen_at}
 use Rattle.cycle.proofs.show.Given as goal
 

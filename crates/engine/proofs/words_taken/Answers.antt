@@ -1,6 +1,6 @@
 -- `engine::words_taken` meets its contract. The loop's invariant: i words are taken, and then those that the rest gives. Assumes nothing.
 use mathlib.Core.Path.{◌≡◌, sym, ◌∙◌}
-use Prim.Native.Nat.{◌-◌, ◌+◌}
+use Prim.Native.Nat.{◌+◌}
 use native.Mathlib.Omega.{arith}
 use Rattle.engine.specs.AnswerLaws.{taken_first, taken_all, taken_22, taken_12, taken_next}
 use Rattle.engine.proofs.words_taken.Goals.{Else-over}

@@ -1,6 +1,6 @@
 use mathlib.Core.Path.{◌≡◌}
-use Prim.Native.Nat.{◌≤◌, ◌-◌}
-use Rattle.netlist.specs.Image.{nodes, channels}
+use Prim.Native.Nat.{◌≤◌}
+use Rattle.netlist.specs.Image.{nodes}
 use Rattle.state.specs.FreshLaws.{filled}
 use Rattle.state.proofs.State.started.Given as goal
 

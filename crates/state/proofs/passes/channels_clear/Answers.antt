@@ -1,7 +1,6 @@
 -- `state::passes::channels_clear` meets its contract. The invariants: the channels below c are clear, and of channel c the stations below j.
 -- Assumes nothing.
 use mathlib.Core.Path.{◌≡◌, refl}
-use Prim.Native.Nat.{◌-◌}
 use native.Mathlib.Numerals.{add-one}
 use native.Mathlib.Omega.{arith}
 use Rattle.laws.specs.Below.{all_below}

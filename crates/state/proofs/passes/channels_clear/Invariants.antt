@@ -1,5 +1,5 @@
 use mathlib.Core.Path.{◌≡◌}
-use Prim.Native.Nat.{◌≤◌, ◌-◌}
+use Prim.Native.Nat.{◌≤◌}
 use Rattle.laws.specs.Below.{all_below}
 use Rattle.state.specs.Fits.{station_clear}
 use Rattle.state.specs.FitsPasses.{channel_clear}

@@ -1,8 +1,7 @@
 use mathlib.Core.Path.{◌≡◌}
-use Prim.Native.Nat.{◌≤◌, ◌*◌, ◌-◌}
+use Prim.Native.Nat.{◌≤◌, ◌*◌}
 use lib.Dec.{leb}
 use Rattle.laws.specs.Below.{all_below, sum_below}
-use Rattle.netlist.specs.Image.{channels}
 use Rattle.state.specs.State.{station_at}
 use Rattle.state.specs.FitsPasses.{channel_fits}
 use Rattle.state.proofs.passes.channels_fit.Given as goal

@@ -1,6 +1,5 @@
 -- `state::passes::clear_queue` meets its contract. The loop's invariant: the tokens looked at so far. Assumes nothing.
 use mathlib.Core.Path.{◌≡◌, refl}
-use Prim.Native.Nat.{◌-◌}
 use native.Mathlib.Numerals.{add-one}
 use native.Mathlib.Omega.{arith}
 use lib.IntN.{pos}

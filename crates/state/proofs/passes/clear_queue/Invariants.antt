@@ -1,5 +1,5 @@
 use mathlib.Core.Path.{◌≡◌}
-use Prim.Native.Nat.{◌≤◌, ◌-◌}
+use Prim.Native.Nat.{◌≤◌}
 use Rattle.laws.specs.Lists.{zero_from}
 use Rattle.state.proofs.passes.clear_queue.Given as goal
 

@@ -1,6 +1,5 @@
 -- `state::passes::nodes_fit` meets its contract. The loop's invariant: the nodes below n fit. Assumes nothing.
 use mathlib.Core.Path.{◌≡◌, refl}
-use Prim.Native.Nat.{◌-◌}
 use native.Mathlib.Numerals.{add-one}
 use native.Mathlib.Omega.{arith}
 use Rattle.laws.specs.Below.{all_below}

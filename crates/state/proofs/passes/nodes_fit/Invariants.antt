@@ -1,5 +1,5 @@
 use mathlib.Core.Path.{◌≡◌}
-use Prim.Native.Nat.{◌≤◌, ◌-◌}
+use Prim.Native.Nat.{◌≤◌}
 use lib.Dec.{ltb}
 use Rattle.laws.specs.Below.{all_below}
 use Rattle.netlist.specs.Image.{nodes}
