@@ -1,0 +1,34 @@
+-- The numbers of refusals: 0 says that a call is not refused.
+use Rattle.std.specs.Prelude.{ℕ, Option, None, Some, Result, Ok, Err}
+use Rattle.refusal.specs.declared.Refusal.{Refusal}
+use Rattle.refusal.specs.declared.Refusal.TheVariants.{Short, Sizes, Length, Kind, Wire, Port, FedTwice, NotFed, Stations, Depth, Total, Stall, Room, Limit, Row, Misfit, Cycles}
+
+-- "Numbers caused by the input", and "numbers caused by the state"
+abbrev pub number : Refusal → ℕ
+number Short = 1
+number Sizes = 2
+number Length = 3
+number Kind = 4
+number Wire = 5
+number Port = 6
+number FedTwice = 7
+number NotFed = 8
+number Stations = 9
+number Depth = 10
+number Total = 11
+number Stall = 12
+number Room = 13
+number Limit = 14
+number Row = 15
+number Misfit = 21
+number Cycles = 22
+
+-- the number of what a call answers
+abbrev pub number_of : {A : Type 0} → Result A Refusal → ℕ
+number_of (Ok answer) = 0
+number_of (Err refusal) = number refusal
+
+-- the number that ends what a call does, if one did
+abbrev pub number_if : Option Refusal → ℕ
+number_if None = 0
+number_if (Some refusal) = number refusal
