@@ -14,10 +14,10 @@ pub struct Netlist<'a> {
 }
 
 impl<'a> Netlist<'a> {
-    ghost use Rattle.std.specs.Prelude.{IfOk};
+    ghost use Rattle.std.specs.Prelude.{◌≤◌, ◌<◌, IfOk};
     ghost use Rattle.netlist.specs.Accepted.{Accepted};
     ghost use Rattle.netlist.specs.Image.{nodes, channels};
-    ghost use Rattle.netlist.specs.Readers.{core_at, channel_at};
+    ghost use Rattle.netlist.specs.Readers.{core_at, channel_at, Placed};
 
     // An image, if the judge accepts it.
     pub fn judged(image: &'a [u8]) -> Result<Netlist<'a>, Refusal>
@@ -38,15 +38,19 @@ impl<'a> Netlist<'a> {
     }
 
     // N.
+    #[tactic(auto, using(crate::specs::AcceptedLaws::nodes_few))]
     pub fn nodes(self) -> u8
-        ensures { result ≡ nodes self.entry.image.now }
+        ensures value { result ≡ nodes self.entry.image.now }
+        ensures few { result ≤ 64 }
     {
         crate::nodes(self.image)
     }
 
     // C.
+    #[tactic(auto, using(crate::specs::AcceptedLaws::channels_few))]
     pub fn channels(self) -> u8
-        ensures { result ≡ channels self.entry.image.now }
+        ensures value { result ≡ channels self.entry.image.now }
+        ensures few { result ≤ 96 }
     {
         crate::channels(self.image)
     }
@@ -59,8 +63,10 @@ impl<'a> Netlist<'a> {
     }
 
     // Channel c's fields.
+    #[tactic(auto, using(crate::specs::AcceptedLaws::channel_placed))]
     pub fn channel(self, c: u8) -> Channel
-        ensures { result ≡ channel_at self.entry.image.now c }
+        ensures value { result ≡ channel_at self.entry.image.now c }
+        ensures placed { c < channels self.entry.image.now → Placed result }
     {
         crate::channel_at(self.image, c)
     }
