@@ -3,8 +3,9 @@
 
 ghost use Rattle.std.specs.Prelude.{◌≡◌, ◌≤◌, IfOk};
 ghost use Rattle.refusal.specs.Number.{number_of};
+ghost use Rattle.state.specs.Told.{told};
 ghost use Rattle.state.specs.Fitting.{Fitting};
-ghost use Rattle.engine.specs.Answer.{sets_above, step_number};
+ghost use Rattle.engine.specs.Answer.{sets_above, step_number, run_told};
 ghost use Rattle.engine.specs.Taken.{state_number, taken_told, taken_from};
 ghost use Rattle.engine.specs.Done.{StepDone, RunDone};
 
@@ -116,7 +117,7 @@ pub fn step(
     letters: &mut [u8],
     values: &mut [i32],
 ) -> Result<State, Refused>
-    ensures { StepDone image.now state word letters.old values.old result letters.new values.new }
+    ensures { StepDone image.now state word letters.old values.old (told result) letters.new values.new }
 {
     let netlist = match admitted(image, state, word, letters.len(), values.len()) {
         Ok(netlist) => netlist,
@@ -131,7 +132,7 @@ pub fn step(
 // made, the state after them, and what stopped it. The image and number 21 are looked at once, 22 and 12
 // before each word.
 pub fn run(image: &[u8], state: State, words: &[u64]) -> Ran
-    ensures { RunDone image.now state words.now result }
+    ensures { RunDone image.now state words.now (run_told result) }
 {
     let netlist = match fitted(image, state) {
         Ok(netlist) => netlist,

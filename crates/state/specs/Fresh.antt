@@ -1,12 +1,11 @@
 -- The fresh state, and what a call for it answers.
-use Rattle.std.specs.Prelude.{List, [], ◌∷◌, ◌≡◌, ℕ, eqb, replicate, Result}
+use Rattle.std.specs.Prelude.{List, [], ◌∷◌, ◌≡◌, ℕ, eqb, replicate}
 use Rattle.laws.specs.Choice.{◌if◌else◌}
 use Rattle.netlist.specs.Image.{parameter, from, stations}
 use Rattle.netlist.specs.Judge.{judge}
 use Rattle.relay.specs.Station.{station_of}
 use Rattle.shell.specs.Queue.{queue_of}
-use Rattle.state.specs.declared.Refused.{Refused}
-use Rattle.state.specs.Told.{Told, told}
+use Rattle.state.specs.Told.{Told}
 use Rattle.state.specs.declared.State.{State}
 use Rattle.state.specs.State.{no_node, state_of}
 
@@ -33,5 +32,5 @@ unfoldable pub fresh_answer : List ℕ → Told
 fresh_answer img = record { number = judge img; state = fresh_state img if eqb (judge img) 0 else zeros }
 
 -- what a call for it has done: its contract ensures this record
-pub record FreshDone (img : List ℕ) (answer : Result State Refused) : Type 0 where
-  pub answered : told answer ≡ fresh_answer img
+pub record FreshDone (img : List ℕ) (answer : Told) : Type 0 where
+  pub answered : answer ≡ fresh_answer img

@@ -1,5 +1,6 @@
 // The fresh state.
 ghost use Rattle.std.specs.Prelude.{◌≡◌};
+ghost use Rattle.state.specs.Told.{told};
 ghost use Rattle.state.specs.Fresh.{zeros, fresh_state, FreshDone};
 
 use crate::{Node, Refused, State};
@@ -57,7 +58,7 @@ impl State {
 
     // An image's fresh state; if the judge refuses the image, a state of zeros is handed back.
     pub fn fresh(image: &[u8]) -> Result<State, Refused>
-        ensures { FreshDone image.now result }
+        ensures { FreshDone image.now (told result) }
     {
         match Netlist::judged(image) {
             Ok(netlist) => Ok(State::started(netlist)),
