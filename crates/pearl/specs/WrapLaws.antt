@@ -1,14 +1,13 @@
 -- Laws of `wrap`. Assumes nothing.
-use Rattle.std.specs.Prelude.{true, false, ◌≡◌, refl, refl, ℕ, zero, suc, ◌-◌, ◌%◌, ◌^◌, ◌<◌, ◌≤◌, ℤ, pos, negsuc, ◌+ℤ◌, ◌-ℤ◌}
+use Rattle.std.specs.Prelude.{true, false, ◌≡◌, refl, refl, suc, ◌-◌, ◌%◌, ◌^◌, ◌<◌, ◌≤◌, ℤ, pos, negsuc, ◌+ℤ◌, ◌-ℤ◌}
 use Rattle.std.proofs.lemmas.Bool.{false≢true}
-use Rattle.std.proofs.Common.{⊎_elim, sym, ap, ◌∙◌, arith, ltb-true, ltb-false, SFits}
+use Rattle.std.proofs.Common.{sym, ap, ◌∙◌, arith, ltb-true, ltb-false, SFits}
 use Rattle.std.proofs.Math.IntN.{neg_ℤ, +ℤ_idl}
 use Rattle.std.specs.Int.Signed.{mag, lt_z}
 use Rattle.std.specs.Int.{w32, int_wrapping_add, int_wrapping_sub, int_wrapping_neg}
 use Rattle.std.specs.Int.{int_wrap}
 use Rattle.std.proofs.lemmas.Int.{wrapping_add_is, wrapping_sub_is, wrapping_neg_is}
 use Rattle.laws.specs.Signed.{signed}
-use Rattle.laws.specs.Cases.{lt-or-ge}
 use Rattle.laws.specs.SignedLaws.{sub_below, sub_above, signed_low, signed_high}
 use Rattle.pearl.specs.Wrap.{wrap}
 
@@ -63,3 +62,6 @@ wrapping_difference a b f g = wrapping_sub_is w32 a b f g ∙ wrap-int_wrap (a -
 
 pub wrapping_negation : (a : ℤ) → SFits w32 a → int_wrapping_neg w32 a ≡ wrap (pos 0 -ℤ a)
 wrapping_negation a f = wrapping_neg_is w32 a f ∙ wrap-int_wrap (neg_ℤ a) ∙ ap wrap (sym (+ℤ_idl (neg_ℤ a)))
+
+-- and a number in the range and these three, for the check to look among
+pub ruleset wrapped = (wrap-fits, wrapping_sum, wrapping_difference, wrapping_negation)
