@@ -1,11 +1,10 @@
 -- Laws of `wrap`. Assumes nothing.
-use Rattle.std.specs.Prelude.{true, false, ◌≡◌, refl, refl, suc, ◌-◌, ◌%◌, ◌^◌, ◌<◌, ◌≤◌, ℤ, pos, negsuc, ◌+ℤ◌, ◌-ℤ◌}
+use Rattle.std.specs.Prelude.{true, false, ◌≡◌, refl, suc, ◌-◌, ◌%◌, ◌^◌, ◌<◌, ◌≤◌, ℤ, pos, negsuc, ◌+ℤ◌, ◌-ℤ◌}
 use Rattle.std.proofs.lemmas.Bool.{false≢true}
 use Rattle.std.proofs.Common.{sym, ap, ◌∙◌, arith, ltb-true, ltb-false, SFits}
 use Rattle.std.proofs.Math.IntN.{neg_ℤ, +ℤ_idl}
 use Rattle.std.specs.Int.Signed.{mag, lt_z}
-use Rattle.std.specs.Int.{w32, int_wrapping_add, int_wrapping_sub, int_wrapping_neg}
-use Rattle.std.specs.Int.{int_wrap}
+use Rattle.std.specs.Int.{w32, int_wrapping_add, int_wrapping_sub, int_wrapping_neg, int_wrap}
 use Rattle.std.proofs.lemmas.Int.{wrapping_add_is, wrapping_sub_is, wrapping_neg_is}
 use Rattle.laws.specs.Signed.{signed}
 use Rattle.laws.specs.SignedLaws.{sub_below, sub_above, signed_low, signed_high}
