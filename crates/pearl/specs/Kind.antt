@@ -2,7 +2,7 @@
 use Rattle.std.specs.Prelude.{true, Result, MatchResult, ◌≡◌, ℕ}
 use Rattle.laws.specs.Range.{outside}
 use Rattle.refusal.specs.declared.Refusal.{Refusal}
-use Rattle.refusal.specs.declared.Refusal.TheVariants as refused
+use Rattle.refusal.specs.declared.Refusal.TheVariants.{Kind as NoKind}
 use Rattle.pearl.specs.declared.Kind.{Kind}
 use Rattle.pearl.specs.declared.Kind.TheVariants.{Count, Hold, Total, Negate, Halve, Sum, Difference, Larger, Choose}
 
@@ -20,4 +20,4 @@ code Choose = 9
 
 -- a number gives the kind that has it, and one that no kind has is refused
 abbrev pub Decodes : ℕ → Result Kind Refusal → Type 0
-Decodes number r = MatchResult r (λ kind. code kind ≡ number) (λ refusal. (refusal ≡ refused.Kind) × (outside 1 9 number ≡ true))
+Decodes number r = MatchResult r (λ kind. code kind ≡ number) (λ refusal. (refusal ≡ NoKind) × (outside 1 9 number ≡ true))

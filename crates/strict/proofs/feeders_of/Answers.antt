@@ -12,15 +12,15 @@ use Rattle.strict.proofs.feeders_of.Goals as goal
 
 pub loop-c-init : goal.loop-c-init
 unfolding ports_below feeders_below
-loop-c-init c = (omega arith, refl)
+loop-c-init c = refl
 
-pub bounds-feeders-to : goal.bounds-feeders-to
+pub bounds-feeders-from : goal.bounds-feeders-from
 unfolding channel_at
-bounds-feeders-to c =
-    let h : c.loop-c.c < channels c.args.image.now = omega (arith, c.channels-channels.ensures) in
-    rw c.channel_at-channel.ensures (place_there c.args.image.now _ c.requires c.loop-c.c h)
+bounds-feeders-from c =
+    let h : c.loop-c.c < channels c.args.image.now = omega (arith, c.channels-c-end.ensures) in
+    rw (c.from.ensures, c.from-in-loop-c.ensures, c.channel_at-channel.ensures) (place_there c.args.image.now _ c.requires c.loop-c.c h)
 
 pub loop-c-preserved : goal.loop-c-preserved
 unfolding channel_at ports_below feeders_below
 loop-c-preserved c =
-    (omega arith, rw (add-one, c.channel_at-channel.ensures, c.loop-c.invariant.1))
+    rw (add-one, c.from.ensures, c.from-in-loop-c.ensures, c.channel_at-channel.ensures, c.loop-c.invariant)
