@@ -4,8 +4,9 @@ use Rattle.laws.specs.Choice.{◌if◌else◌}
 use Rattle.netlist.specs.Image.{nodes, channels}
 use Rattle.netlist.specs.Judge.{judge}
 use Rattle.engine.specs.declared.Ran.{Ran}
+use Rattle.refusal.specs.Number.{number_if}
 use Rattle.state.specs.declared.State.{State}
-use Rattle.engine.specs.declared.Stepped.{Stepped}
+use Rattle.state.specs.Told.{Told}
 use Rattle.cycle.specs.Cycle.{state_after, letters_of, values_of}
 use Rattle.state.specs.Fits.{fits}
 
@@ -33,7 +34,7 @@ module _ (img : List ℕ) (s : State) (word : ℕ) (letters : List ℕ) (values 
   unfoldable pub step_of : ℕ
   step_of = step_number img s word (length letters) (length values)
 
-  unfoldable pub step_answer : Stepped
+  unfoldable pub step_answer : Told
   step_answer = record { number = step_of; state = state_after img word s if eqb step_of 0 else s }
 
   unfoldable pub letters_written : List ℕ
@@ -43,13 +44,22 @@ module _ (img : List ℕ) (s : State) (word : ℕ) (letters : List ℕ) (values 
   values_written = (values_of img s ++ drop (channels img) values) if eqb step_of 0 else values
 
 -- ---- the run
+-- what its answer tells
+pub record RunTold : Type 0 where
+  pub steps : ℕ
+  pub number : ℕ
+  pub state : State
+
+abbrev pub run_told : Ran → RunTold
+run_told r = record { steps = r.steps; number = number_if r.stopped; state = r.state }
+
 -- one step more
-unfoldable pub step_more : Ran → Ran
+unfoldable pub step_more : RunTold → RunTold
 step_more r = record { steps = suc r.steps; number = r.number; state = r.state }
 
 -- "The run takes words in order and stops at the first refusal. It returns the steps done, the state after them, and the number or 0."
 -- "then 22 and 12 before each word"
-unfoldable pub ran_from : List ℕ → State → List ℕ → Ran
+unfoldable pub ran_from : List ℕ → State → List ℕ → RunTold
 ran_from img s [] = record { steps = 0; number = 0; state = s }
 ran_from img s (word ∷ words) =
     record { steps = 0; number = 22; state = s } if eqb s.cycles 1000000 else
@@ -57,7 +67,7 @@ ran_from img s (word ∷ words) =
     step_more (ran_from img (state_after img word s) words)
 
 -- "The run checks the image and 21 once"
-unfoldable pub run_answer : List ℕ → State → List ℕ → Ran
+unfoldable pub run_answer : List ℕ → State → List ℕ → RunTold
 run_answer img s words =
     record { steps = 0; number = judge img; state = s } if not (eqb (judge img) 0) else
     record { steps = 0; number = 21; state = s } if not (fits img s) else

@@ -13,14 +13,12 @@ use Rattle.laws.specs.Choice.{◌if◌else◌}
 use Rattle.laws.specs.ChoiceLaws.{past, past_number}
 use Rattle.netlist.specs.Image.{nodes, channels}
 use Rattle.netlist.specs.Judge.{judge}
-use Rattle.engine.specs.declared.Ran.{Ran}
 use Rattle.state.specs.declared.State.{State}
-use Rattle.engine.specs.declared.Taken.{Taken}
 use Rattle.state.specs.State.{state_of}
 use Rattle.cycle.specs.Cycle.{state_after, after, letters_of, values_of}
 use Rattle.state.specs.Fits.{fits}
-use Rattle.engine.specs.Taken.{state_number, take_more, taken_from, taken_after}
-use Rattle.engine.specs.Answer.{sets_above, step_number, step_of, step_answer, letters_written, values_written, step_more, ran_from, run_answer}
+use Rattle.engine.specs.Taken.{state_number, TakenTold, take_more, taken_from, taken_after}
+use Rattle.engine.specs.Answer.{sets_above, step_number, step_of, step_answer, letters_written, values_written, RunTold, step_more, ran_from, run_answer}
 
 -- ---- image and state
 module _ (img : List ℕ) (s : State) where
@@ -154,7 +152,7 @@ unfolding taken_from take_more
 taken_few n d [] h = (omega arith, omega arith)
 taken_few n d (word ∷ words) h = go (eqb d 1000000) (sets_above n word) refl (λ l. taken_few n (suc d) words l)
   where
-    t : Taken
+    t : TakenTold
     t = taken_from n (suc d) words
 
     go :
@@ -177,7 +175,7 @@ unfolding taken_from ran_from after take_more step_more state_after state_of
 ran_taken img [] s = refl
 ran_taken img (word ∷ words) s = go (eqb s.cycles 1000000) (sets_above (nodes img) word) (ran_taken img words (state_after img word s))
   where
-    t : Taken
+    t : TakenTold
     t = taken_from (nodes img) (suc s.cycles) words
 
     go :
@@ -199,7 +197,7 @@ module _ (img : List ℕ) (s : State) (words : List ℕ) where
     where
       first :
           (j : ℕ) (f : Bool) → ((j if not (eqb j 0) else 21 if not f else 0) ≡ 0 → ⊥)
-          → ◌≡◌ {A = Ran} (record { steps = 0; number = j if not (eqb j 0) else 21 if not f else 0; state = s })
+          → ◌≡◌ {A = RunTold} (record { steps = 0; number = j if not (eqb j 0) else 21 if not f else 0; state = s })
           (record { steps = 0; number = j; state = s } if not (eqb j 0)
           else record { steps = 0; number = 21; state = s } if not f else ran_from img s words)
       first zero false n = refl

@@ -1,33 +1,32 @@
 // The cycle engine: one step of a state, and a run over a list of stall words.
 #![tactic(auto)]
 
-ghost use Rattle.std.specs.Prelude.{◌≡◌, ◌≤◌};
-ghost use Rattle.engine.specs.Answer.{sets_above, step_number};
-ghost use Rattle.engine.specs.Taken.{state_number, taken_from};
+ghost use Rattle.std.specs.Prelude.{◌≡◌, ◌≤◌, IfOk};
+ghost use Rattle.refusal.specs.Number.{number_of};
+ghost use Rattle.state.specs.Told.{told};
+ghost use Rattle.state.specs.Fitting.{Fitting};
+ghost use Rattle.engine.specs.Answer.{sets_above, step_number, run_told};
+ghost use Rattle.engine.specs.Taken.{state_number, taken_told, taken_from};
 ghost use Rattle.engine.specs.Done.{StepDone, RunDone};
 
-use state::State;
+use netlist::Netlist;
+use refusal::Refusal;
+use state::{Refused, State};
 
-// What a step answers.
-#[derive(Clone, Copy)]
-pub struct Stepped {
-    pub number: u8,
-    pub state: State,
-}
-
-// What a run answers: the steps done, and the number that stopped it or 0.
+// What a run answers: the steps done, the state after them, and what stopped it, if it did not come to
+// the end of its words.
 #[derive(Clone, Copy)]
 pub struct Ran {
     pub steps: u32,
-    pub number: u8,
     pub state: State,
+    pub stopped: Option<Refusal>,
 }
 
-// Which words a run takes: how many, and the number that stops it or 0.
+// Which words a run takes: how many, and what stops it.
 #[derive(Clone, Copy)]
 struct Taken {
     steps: usize,
-    number: u8,
+    stopped: Option<Refusal>,
 }
 
 // Whether a word sets a bit at or above n.
@@ -40,121 +39,116 @@ pub fn sets_above(word: u64, n: u8) -> bool
     word >> n != 0
 }
 
-// The image's number, and then 21.
-fn refusal(image: &[u8], state: State) -> u8
-    ensures { result ≡ state_number image.now state }
+// The netlist of an image that a state fits: the judge's refusals, and then 21. The state comes by value:
+// behind a reference nothing is known of the lengths of its arrays.
+fn fitted<'a>(image: &'a [u8], state: State) -> Result<Netlist<'a>, Refusal>
+    ensures number { number_of result ≡ state_number image.entry.now state }
+    ensures same { IfOk result (λ netlist. netlist.image ≡ image.entry) }
+    ensures fitting { IfOk result (λ netlist. Fitting netlist.image.now state) }
 {
-    let judged = netlist::judge(image);
-    if judged != 0 {
-        return judged;
+    let netlist = Netlist::judged(image)?;
+    if !state.fits(netlist) {
+        return Err(Refusal::Misfit);
     }
-    if !state::fits(image, state) {
-        return 21;
-    }
-    0
+    Ok(netlist)
 }
 
-// A step's number, where it is lent arrays of so many places.
-fn number(image: &[u8], state: State, word: u64, letters: usize, values: usize) -> u8
-    ensures { result ≡ step_number image.now state word letters values }
+// The netlist for a step that is lent arrays of so many places.
+fn admitted<'a>(
+    image: &'a [u8],
+    state: State,
+    word: u64,
+    letters: usize,
+    values: usize,
+) -> Result<Netlist<'a>, Refusal>
+    ensures number { number_of result ≡ step_number image.entry.now state word letters values }
+    ensures same { IfOk result (λ netlist. netlist.image ≡ image.entry) }
+    ensures fitting { IfOk result (λ netlist. Fitting netlist.image.now state) }
 {
-    let refused = refusal(image, state);
-    let nodes = netlist::nodes(image);
-    let channels = netlist::channels(image) as usize;
-    if refused != 0 {
-        return refused;
+    let netlist = fitted(image, state)?;
+    let nodes = netlist.nodes();
+    let channels = netlist.channels() as usize;
+    if state.cycles == State::CYCLES {
+        return Err(Refusal::Cycles);
     }
-    let late = state.cycles == State::CYCLES;
-    let above = sets_above(word, nodes);
-    let short = (letters < channels) | (values < channels);
-    if late {
-        return 22;
+    if sets_above(word, nodes) {
+        return Err(Refusal::Stall);
     }
-    if above {
-        return 12;
+    if (letters < channels) | (values < channels) {
+        return Err(Refusal::Room);
     }
-    if short {
-        return 13;
-    }
-    0
+    Ok(netlist)
 }
 
 // The words that a run takes: 22 and 12 are looked for before each.
 fn words_taken(nodes: u8, cycles: u32, words: &[u64]) -> Taken
     requires { cycles ≤ 1000000 }
-    ensures { result ≡ taken_from nodes cycles words.now }
+    ensures { taken_told result ≡ taken_from nodes cycles words.now }
 {
     let room = (State::CYCLES - cycles) as usize;
-    let mut i: usize = 0;
-    while i < words.len() {
-        let over = i == room;
-        let refused = sets_above(words[i], nodes);
-        if over {
+    for i in 0..words.len() {
+        if i == room {
             return Taken {
                 steps: i,
-                number: 22,
+                stopped: Some(Refusal::Cycles),
             };
         }
-        if refused {
+        if sets_above(words[i], nodes) {
             return Taken {
                 steps: i,
-                number: 12,
+                stopped: Some(Refusal::Stall),
             };
         }
-        i += 1;
     }
     Taken {
-        steps: i,
-        number: 0,
+        steps: words.len(),
+        stopped: None,
     }
 }
 
-// One cycle with a stall word. It answers 0 and the state after the cycle, and writes the C letters
-// and the C values of the cycle to the first places of `letters` and `values`; or it answers a number
-// and the state that it was handed, and writes nothing. The numbers are the judge's, then 21, 22, 12
-// and 13.
+// One cycle with a stall word: the state after the cycle, and the C letters and the C values of the cycle
+// in the first places of `letters` and `values`. A refused step hands back the state that it was handed,
+// and writes nothing. It is refused by the judge, then for 21, 22, 12 and 13. Letters and values are two
+// lent arrays, as C lends them.
 pub fn step(
     image: &[u8],
     state: State,
     word: u64,
     letters: &mut [u8],
     values: &mut [i32],
-) -> Stepped
-    ensures { StepDone image.now state word letters.old values.old result letters.new values.new }
+) -> Result<State, Refused>
+    ensures { StepDone image.now state word letters.old values.old (told result) letters.new values.new }
 {
-    let number = number(image, state, word, letters.len(), values.len());
-    if number != 0 {
-        return Stepped { number, state };
-    }
-    cycle::show(image, state, letters, values);
+    let netlist = match admitted(image, state, word, letters.len(), values.len()) {
+        Ok(netlist) => netlist,
+        Err(refusal) => return Err(Refused { refusal, state }),
+    };
+    cycle::show(netlist.image, state, letters, values);
     let words = [word];
-    let after = cycle::cycles(image, state, &words);
-    Stepped {
-        number,
-        state: after,
-    }
+    Ok(cycle::cycles(netlist.image, state, &words))
 }
 
 // A cycle for each of the words, in order, up to the first that is refused. It answers how many it
-// made, the state after them, and the number that stopped it or 0. The image and number 21 are looked
-// at once, 22 and 12 before each word.
+// made, the state after them, and what stopped it. The image and number 21 are looked at once, 22 and 12
+// before each word.
 pub fn run(image: &[u8], state: State, words: &[u64]) -> Ran
-    ensures { RunDone image.now state words.now result }
+    ensures { RunDone image.now state words.now (run_told result) }
 {
-    let unfit = refusal(image, state);
-    if unfit != 0 {
-        return Ran {
-            steps: 0,
-            number: unfit,
-            state,
-        };
-    }
-    let taken = words_taken(netlist::nodes(image), state.cycles, words);
-    let steps = taken.steps;
-    let last = cycle::cycles(image, state, &words[0..steps]);
+    let netlist = match fitted(image, state) {
+        Ok(netlist) => netlist,
+        Err(refusal) => {
+            return Ran {
+                steps: 0,
+                state,
+                stopped: Some(refusal),
+            };
+        }
+    };
+    let taken = words_taken(netlist.nodes(), state.cycles, words);
+    let last = cycle::cycles(netlist.image, state, &words[..taken.steps]);
     Ran {
-        steps: steps as u32,
-        number: taken.number,
+        steps: taken.steps as u32,
         state: last,
+        stopped: taken.stopped,
     }
 }

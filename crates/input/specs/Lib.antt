@@ -1,3 +1,2 @@
 -- What is said of an input.
 pub mod Input
-pub mod InputLaws

@@ -6,19 +6,17 @@
 
 use std::io;
 
-fn print(rt: &impl Print, number: u8) -> io::Result<()> {
-    if number == 0 {
-        return println!(rt; "accepted");
+fn judge(rt: &impl Print, image: &[u8]) -> io::Result<()> {
+    match netlist::judge(image) {
+        0 => println!(rt; "accepted"),
+        number => println!(rt; "refused {number}"),
     }
-    println!(rt; "refused {number}")
 }
 
 fn main(rt: HostRuntime) -> io::Result<()> {
     let mut image = [0u8; 803];
-    let input = input::read_to_end(&mut rt.stdin(), &mut image);
-    if !input.complete {
-        return eprintln!(rt; "judge: standard input cannot be read");
+    match input::read_to_end(&mut rt.stdin(), &mut image) {
+        Ok(input) => judge(&rt, &image[..input.kept]),
+        Err(unread) => eprintln!(rt; "judge: {unread}"),
     }
-    let kept = input.kept;
-    print(&rt, netlist::judge(&image[..kept]))
 }

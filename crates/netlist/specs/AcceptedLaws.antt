@@ -1,11 +1,12 @@
 -- Acceptance is the record `Accepted`, both ways. Assumes nothing.
-use Rattle.std.specs.Prelude.{true, List, ◌≡◌, ℕ, length}
+use Rattle.std.specs.Prelude.{true, List, ◌≡◌, ℕ, ◌≤◌, ◌<◌, length}
 use Rattle.std.proofs.Common.{arith, ltb-false, le-ltb}
 use Rattle.laws.specs.Below.{any_below, sum_below}
 use Rattle.laws.specs.BelowLaws.{any_where, any_hit, none-iff}
 use Rattle.netlist.specs.Image.{nodes, channels, kind, to, feeds, stations}
 use Rattle.netlist.specs.ImageLaws.{inputs_few}
 use Rattle.netlist.specs.Ports.{Wired}
+use Rattle.netlist.specs.Readers.{channel_at, Placed}
 use Rattle.netlist.specs.Judge.{judge, bad_kind, bad_wire, bad_port, bad_stations, bad_depth}
 use Rattle.netlist.specs.PortsLaws.{feeds_ok}
 use Rattle.netlist.specs.JudgeLaws.{sizes_ok, length_ok, kind_ok, wire_ok, port_ok, stations_ok, depth_ok}
@@ -70,4 +71,24 @@ accepted-wired img a =
     record {
       node = λ c h. omega (arith, a.wires c h, a.few_nodes);
       input = λ c h. omega (arith, a.ports c h, inputs_few (kind img (to img c)));
+    }
+
+-- ---- for the readers of an accepted image
+pub nodes_few : (img : List ℕ) → judge img ≡ 0 → nodes img ≤ 64
+nodes_few img e = (accepted img e).few_nodes
+
+pub channels_few : (img : List ℕ) → judge img ≡ 0 → channels img ≤ 96
+channels_few img e = (accepted img e).few_channels
+
+pub channel_placed : (img : List ℕ) → judge img ≡ 0 → (c : ℕ) → c < channels img → Placed (channel_at img c)
+unfolding channel_at
+channel_placed img e c h =
+    let a = accepted img e in
+    let w = a.wires c h in
+    record {
+      from = omega (arith, w.0, a.few_nodes);
+      to = omega (arith, w.1, a.few_nodes);
+      port = omega (arith, a.ports c h, inputs_few (kind img (to img c)));
+      stations = a.rows c h;
+      depth = (a.queues c h).1;
     }

@@ -3,7 +3,6 @@ use Rattle.std.specs.Prelude.{Bool, true, false, not, List, ◌≡◌, ℕ, ◌*
 use Rattle.laws.specs.Below.{any_below, sum_below}
 use Rattle.laws.specs.Choice.{◌if◌else◌}
 use Rattle.netlist.specs.declared.passes.Found.{Found}
-use Rattle.netlist.specs.declared.passes.Fed.{Fed}
 use Rattle.netlist.specs.Image.{kind, to, port, stations, inputs}
 use Rattle.netlist.specs.Judge.{bad_wire, bad_port, bad_stations, bad_depth}
 use Rattle.netlist.specs.Ports.{port_place, ports_below}
@@ -36,10 +35,12 @@ depth_number found =
 unfoldable pub marks_below : List ℕ → ℕ → List Bool
 marks_below img c = ports_below img (λ k. true) false c
 
--- these, and whether a channel below c found its port marked
-unfoldable pub fed_below : List ℕ → ℕ → Fed
-fed_below img c =
-    record { twice = any_below (λ k. get_or (marks_below img k) (port_place (to img k) (port img k)) false) c; ports = marks_below img c }
+-- channel c finds its port marked, and whether a channel below c does
+abbrev pub finds : List ℕ → ℕ → Bool
+finds img c = get_or (marks_below img c) (port_place (to img c) (port img c)) false
+
+unfoldable pub twice_below : List ℕ → ℕ → Bool
+twice_below img c = any_below (finds img) c
 
 -- a port of node n that is not fed
 unfoldable pub misses : List ℕ → List Bool → ℕ → Bool

@@ -1,16 +1,16 @@
 -- What the judge's passes hold is what its definition asks, once numbers 4 to 6 have no cause. Assumes nothing.
-use Rattle.std.specs.Prelude.{true, List, ◌≡◌, ℕ, ◌≤◌, ◌<◌}
+use Rattle.std.specs.Prelude.{true, List, ◌≡◌, ℕ, suc, ◌≤◌, ◌<◌}
 use Rattle.std.proofs.Math.Bool.{false, not}
 use Rattle.std.proofs.Math.Path.{ap}
 use Rattle.std.proofs.Common.{◌∙◌, arith}
 use Rattle.std.proofs.Math.ListN.{get_or}
 use Rattle.laws.specs.Below.{any_below}
-use Rattle.laws.specs.BelowLaws.{none-iff, any_same, pick_any}
+use Rattle.laws.specs.BelowLaws.{none-iff, any_same, any_hit, pick_any}
 use Rattle.netlist.specs.Image.{feeds, nodes, channels, kind, to, port, inputs}
 use Rattle.netlist.specs.ImageLaws.{inputs_few}
 use Rattle.netlist.specs.Judge.{bad_wire, bad_port, fed_twice, not_fed}
 use Rattle.netlist.specs.JudgeLaws.{wire_ok, port_ok}
-use Rattle.netlist.specs.Passes.{marks_below, fed_below, misses}
+use Rattle.netlist.specs.Passes.{marks_below, finds, twice_below, misses}
 use Rattle.netlist.specs.Ports.{port_place, Wired}
 use Rattle.netlist.specs.PortsLaws.{fewer, ports_at}
 
@@ -29,16 +29,25 @@ module _ (img : List ℕ) where
   marked c w n p h l = ports_at img (λ k. true) false c w n p h l ∙ pick_any (feeds img n p) c
 
   -- number 7
-  pub twice_is : (c : ℕ) → Wired img c → (fed_below img c).twice ≡ any_below (fed_twice img) c
-  unfolding fed_below fed_twice
+  pub twice_is : (c : ℕ) → Wired img c → twice_below img c ≡ any_below (fed_twice img) c
+  unfolding twice_below fed_twice
   twice_is c w =
-      any_same (λ k. get_or (marks_below img k) (port_place (to img k) (port img k)) false) (fed_twice img) c λ k h.
+      any_same (finds img) (fed_twice img) c λ k h.
       marked k (fewer img k c (omega arith) w) (to img k) (port img k) (w.node k h) (w.input k h)
+
+  -- for the loop: a channel finds its port marked, or is one more that does not
+  pub twice_found : (k c : ℕ) → k < c → finds img k ≡ true → twice_below img c ≡ true
+  unfolding twice_below
+  twice_found k c h e = any_hit (finds img) k c h e
+
+  pub twice_more : (k : ℕ) → twice_below img k ≡ false → finds img k ≡ false → twice_below img (suc k) ≡ false
+  unfolding twice_below any_below
+  twice_more k h e = rw (h, e)
 
   -- number 8
   pub misses_is : nodes img ≤ 64 → Wired img (channels img) →
-      any_below (misses img (fed_below img (channels img)).ports) (nodes img) ≡ any_below (not_fed img) (nodes img)
-  unfolding misses not_fed fed_below
+      any_below (misses img (marks_below img (channels img))) (nodes img) ≡ any_below (not_fed img) (nodes img)
+  unfolding misses not_fed
   misses_is few w =
       let c = channels img in
       any_same (misses img (marks_below img c)) (not_fed img) (nodes img) λ n h.

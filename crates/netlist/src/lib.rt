@@ -1,14 +1,19 @@
 // The netlist image: the judge, and readers of its fields.
 #![tactic(auto)]
 
+mod accepted;
 mod passes;
 
-ghost use Rattle.std.specs.Prelude.{◌||◌, ◌≡◌, ◌+◌, ◌*◌, ◌^◌, ◌<◌, ltb, get_or};
+ghost use Rattle.std.specs.Prelude.{◌||◌, ◌≡◌, ◌^◌, ◌<◌, ltb, get_or};
 ghost use Rattle.laws.specs.Range.{outside};
 ghost use Rattle.laws.specs.Signed.{signed};
+ghost use Rattle.refusal.specs.Number.{number_of};
 ghost use Rattle.netlist.specs.Image.{nodes, channels, kind, four_bytes, inputs};
 ghost use Rattle.netlist.specs.Judge.{judge};
 ghost use Rattle.netlist.specs.Readers.{core_at, channel_at};
+
+pub use accepted::Netlist;
+use refusal::Refusal;
 
 // A node's fields. Kinds are 1 to 9 in an accepted image.
 #[derive(Clone, Copy)]
@@ -28,21 +33,15 @@ pub struct Channel {
     pub depth: u8,
 }
 
-// A byte as an index.
-fn wide(byte: u8) -> usize
-    ensures { result ≡ byte }
-{
-    byte as usize
-}
-
 // The byte at a place, 0 past the end.
 fn byte_at(image: &[u8], at: usize) -> u8
     ensures { result ≡ get_or image.now at 0 }
 {
-    if at < image.len() { image[at] } else { 0 }
+    image.get(at).copied().unwrap_or(0)
 }
 
 // N, 0 for an empty image.
+#[tactic(auto, unfolding(crate::specs::Image::nodes))]
 pub fn nodes(image: &[u8]) -> u8
     ensures { result ≡ nodes image.now }
 {
@@ -50,6 +49,7 @@ pub fn nodes(image: &[u8]) -> u8
 }
 
 // C, 0 for an image under two bytes.
+#[tactic(auto, unfolding(crate::specs::Image::channels))]
 pub fn channels(image: &[u8]) -> u8
     ensures { result ≡ channels image.now }
 {
@@ -57,20 +57,14 @@ pub fn channels(image: &[u8]) -> u8
 }
 
 // Node n's kind.
+#[tactic(auto, unfolding(crate::specs::Image::kind))]
 fn kind_at(image: &[u8], n: u8) -> u8
     ensures { result ≡ kind image.now n }
 {
-    byte_at(image, 2 + wide(n))
+    byte_at(image, 2 + n as usize)
 }
 
-// The number of four bytes, low byte first.
-fn joined(a: u8, b: u8, c: u8, d: u8) -> u64
-    ensures { (result ≡ a + 2 ^ 8 * b + 2 ^ 16 * c + 2 ^ 24 * d) × (result < 2 ^ 32) }
-{
-    a as u64 + 256 * b as u64 + 65536 * c as u64 + 16777216 * d as u64
-}
-
-// The four bytes at a place as such a number, each 0 past the end. For other crates: to read what
+// The four bytes at a place as a number, low byte first, each 0 past the end. For other crates: to read what
 // follows an image, such as a trace's words.
 pub fn four_bytes(image: &[u8], at: usize) -> u64
     ensures { (result ≡ four_bytes image.now at) × (result < 2 ^ 32) }
@@ -78,12 +72,13 @@ pub fn four_bytes(image: &[u8], at: usize) -> u64
     if image.len() <= at {
         return 0;
     }
-    joined(
+    let bytes = [
         byte_at(image, at),
         byte_at(image, at + 1),
         byte_at(image, at + 2),
         byte_at(image, at + 3),
-    )
+    ];
+    u32::from_le_bytes(bytes) as u64
 }
 
 // The signed number of the same 32 bits. For other crates: to read tokens that are kept as bytes.
@@ -91,18 +86,15 @@ pub fn four_bytes(image: &[u8], at: usize) -> u64
 pub fn as_signed(n: u32) -> i32
     ensures { result ≡ signed n }
 {
-    if n < 2147483648 {
-        n as i32
-    } else {
-        (n as i64 - 4294967296) as i32
-    }
+    n.cast_signed()
 }
 
 // Node n's fields, each 0 past the image's end.
+#[tactic(auto, unfolding(crate::specs::Readers::core_at, crate::specs::Image::parameter))]
 pub fn core_at(image: &[u8], n: u8) -> Core
     ensures { result ≡ core_at image.now n }
 {
-    let parameter = four_bytes(image, 2 + wide(nodes(image)) + 4 * wide(n));
+    let parameter = four_bytes(image, 2 + nodes(image) as usize + 4 * n as usize);
     Core {
         kind: kind_at(image, n),
         parameter: as_signed(parameter as u32),
@@ -110,13 +102,14 @@ pub fn core_at(image: &[u8], n: u8) -> Core
 }
 
 // Channel c's fields, each 0 past the image's end.
+#[tactic(auto, unfolding(crate::specs::Readers::channel_at, crate::specs::Image::from, crate::specs::Image::to, crate::specs::Image::port, crate::specs::Image::stations, crate::specs::Image::depth, crate::specs::Image::wire, crate::specs::Image::depths))]
 pub fn channel_at(image: &[u8], c: u8) -> Channel
     ensures { result ≡ channel_at image.now c }
 {
-    let i = wide(c);
-    let wires = 2 + 5 * wide(nodes(image));
+    let i = c as usize;
+    let wires = 2 + 5 * nodes(image) as usize;
     let wire = wires + 3 * i;
-    let depths = wires + 3 * wide(channels(image)) + 2 * i;
+    let depths = wires + 3 * channels(image) as usize + 2 * i;
     Channel {
         from: byte_at(image, wire),
         to: byte_at(image, wire + 1),
@@ -129,11 +122,11 @@ pub fn channel_at(image: &[u8], c: u8) -> Channel
 const INPUTS: [u8; 10] = [0, 0, 1, 1, 1, 1, 2, 2, 2, 3];
 
 // How many inputs a node of a kind has, 0 for a number that is no kind.
+#[tactic(auto, unfolding(crate::specs::Image::inputs))]
 fn inputs(kind: u8) -> u8
     ensures { result ≡ inputs kind }
 {
-    let k = wide(kind);
-    if k < 10 { INPUTS[k] } else { 0 }
+    INPUTS.get(kind as usize).copied().unwrap_or(0)
 }
 
 // Number 2: whether N is not 1 to 64, or C is over 96.
@@ -143,21 +136,21 @@ fn bad_sizes(n: u8, c: u8) -> bool
     ((n < 1) | (64 < n)) | (96 < c)
 }
 
-// The judge: 0 for an accepted image, else the first of the numbers 1 to 11 that has a cause in it.
+// The judge: the first of the refusals 1 to 11 that has a cause in the image, if one has.
 #[tactic(auto, unfolding(crate::specs::Judge::judge))]
-pub fn judge(image: &[u8]) -> u8
-    ensures { result ≡ judge image.now }
+pub fn judge(image: &[u8]) -> Result<(), Refusal>
+    ensures { number_of result ≡ judge image.now }
 {
     if image.len() < 2 {
-        return 1;
+        return Err(Refusal::Short);
     }
     let n = nodes(image);
     let c = channels(image);
     if bad_sizes(n, c) {
-        return 2;
+        return Err(Refusal::Sizes);
     }
-    if image.len() != 2 + 5 * wide(n) + 5 * wide(c) {
-        return 3;
+    if image.len() != 2 + 5 * n as usize + 5 * c as usize {
+        return Err(Refusal::Length);
     }
     passes::contents(image)
 }

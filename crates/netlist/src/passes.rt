@@ -1,14 +1,17 @@
 // The judge's passes over an image whose length fits its sizes. Each goes over all nodes or all
 // channels once, so that a number is settled for the whole image before the next is looked at.
-ghost use Rattle.std.specs.Prelude.{◌≡◌, ◌+◌, ◌<◌, ◌≤◌};
+ghost use Rattle.std.specs.Prelude.{◌≡◌, ◌+◌, ◌<◌, ◌≤◌, IfOk};
 ghost use Rattle.laws.specs.Below.{any_below};
+ghost use Rattle.laws.specs.Choice.{◌if◌else◌};
+ghost use Rattle.refusal.specs.Number.{number_of};
 ghost use Rattle.netlist.specs.Image.{nodes, channels};
 ghost use Rattle.netlist.specs.Judge.{bad_kind, judge};
 ghost use Rattle.netlist.specs.Ports.{Wired};
 ghost use Rattle.netlist.specs.Clear.{Sized};
-ghost use Rattle.netlist.specs.Passes.{found_below, Passed, depth_number, fed_below, misses};
+ghost use Rattle.netlist.specs.Passes.{found_below, Passed, depth_number, marks_below, twice_below, misses};
 
-use crate::{channel_at, channels, inputs, kind_at, nodes, wide};
+use crate::{channel_at, channels, inputs, kind_at, nodes};
+use refusal::Refusal;
 
 // What a pass over the channels finds: whether number 5, 6, 9 or 10 has a cause, and all stations.
 #[derive(Clone, Copy)]
@@ -18,13 +21,6 @@ pub struct Found {
     pub stations: bool,
     pub depth: bool,
     pub total: u32,
-}
-
-// The ports that are fed, 3 places a node, and whether one is fed twice.
-#[derive(Clone, Copy)]
-pub struct Fed {
-    pub twice: bool,
-    pub ports: [bool; 192],
 }
 
 // Number 4: whether a kind is not 1 to 9.
@@ -75,23 +71,23 @@ fn scan_channels(image: &[u8]) -> Found
     found
 }
 
-// Number 7, with the ports that are fed.
-fn feed_ports(image: &[u8]) -> Fed
+// The ports that are fed, 3 places a node, if none is fed twice: number 7.
+fn feed_ports(image: &[u8]) -> Result<[bool; 192], Refusal>
     requires { Wired image.now (channels image.now) }
-    ensures { result ≡ fed_below image.now (channels image.now) }
+    ensures number { number_of result ≡ (7 if twice_below image.now (channels image.now) else 0) }
+    ensures marks { IfOk result (λ ports. ports ≡ marks_below image.now (channels image.now)) }
 {
     let c = channels(image);
-    let mut fed = Fed {
-        twice: false,
-        ports: [false; 192],
-    };
+    let mut ports = [false; 192];
     for i in 0..c {
         let w = channel_at(image, i);
-        let at = 3 * wide(w.to) + wide(w.port);
-        fed.twice = fed.twice | fed.ports[at];
-        fed.ports[at] = true;
+        let at = 3 * w.to as usize + w.port as usize;
+        if ports[at] {
+            return Err(Refusal::FedTwice);
+        }
+        ports[at] = true;
     }
-    fed
+    Ok(ports)
 }
 
 // Whether a port of node n is not among those fed.
@@ -100,10 +96,10 @@ fn misses_port(image: &[u8], ports: &[bool; 192], n: u8) -> bool
     ensures { result ≡ misses image.now ports.now n }
 {
     let k = inputs(kind_at(image, n));
-    let at = 3 * wide(n);
+    let at = 3 * n as usize;
     let mut any = false;
     for p in 0..k {
-        any = any | !ports[at + wide(p)];
+        any = any | !ports[at + p as usize];
     }
     any
 }
@@ -124,43 +120,39 @@ fn scan_ports(image: &[u8], ports: &[bool; 192]) -> bool
 
 // Numbers 9 to 11, from what was found of all channels.
 #[tactic(auto, unfolding(crate::specs::Passes::depth_number))]
-fn depth_number(found: Found) -> u8
-    ensures { result ≡ depth_number found }
+fn judge_depths(found: Found) -> Result<(), Refusal>
+    ensures { number_of result ≡ depth_number found }
 {
     if found.stations {
-        return 9;
+        return Err(Refusal::Stations);
     }
     if found.depth {
-        return 10;
+        return Err(Refusal::Depth);
     }
     if 256 < found.total {
-        return 11;
+        return Err(Refusal::Total);
     }
-    0
+    Ok(())
 }
 
 // Numbers 4 to 11, of an image that has none of 1 to 3.
-pub(crate) fn contents(image: &[u8]) -> u8
+pub(crate) fn contents(image: &[u8]) -> Result<(), Refusal>
     requires { Sized image.now }
-    ensures { result ≡ judge image.now }
+    ensures { number_of result ≡ judge image.now }
 {
     if scan_kinds(image) {
-        return 4;
+        return Err(Refusal::Kind);
     }
     let found = scan_channels(image);
     if found.wire {
-        return 5;
+        return Err(Refusal::Wire);
     }
     if found.port {
-        return 6;
+        return Err(Refusal::Port);
     }
-    let fed = feed_ports(image);
-    if fed.twice {
-        return 7;
-    }
-    let ports = fed.ports;
+    let ports = feed_ports(image)?;
     if scan_ports(image, &ports) {
-        return 8;
+        return Err(Refusal::NotFed);
     }
-    depth_number(found)
+    judge_depths(found)
 }

@@ -7,9 +7,5 @@ ghost use Rattle.std.specs.Prelude.{◌≡◌, nat_abs};
 pub fn magnitude(value: i32) -> u64
     ensures { result ≡ nat_abs value }
 {
-    let wide = value as i64;
-    if wide < 0 {
-        return (0 - wide) as u64;
-    }
-    wide as u64
+    value.unsigned_abs() as u64
 }

@@ -1,11 +1,11 @@
--- The definitions here, computed: source document 004's table 1, source document 000's figure 6, a row of two stations, and records.
-use Rattle.std.specs.Prelude.{Bool, true, false, List, [], ◌∷◌, ◌++◌, ◌≡◌, refl, ℕ, pred, eqb, ltb, ℤ, pos, negsuc, replicate}
+-- The definitions here, computed: a table of readings, a station through eleven cycles, a row of two stations, and records.
+use Rattle.std.specs.Prelude.{Some, Bool, true, false, List, [], ◌∷◌, ◌++◌, ◌≡◌, refl, ℕ, pred, eqb, ltb, ℤ, pos, negsuc, replicate}
+use Rattle.std.specs.Bool.{then_some}
 use Rattle.laws.specs.Below.{all_below}
 use Rattle.laws.specs.Lists.{one_if, padded, zero_from}
-use Rattle.relay.specs.declared.Link.{Link}
 use Rattle.relay.specs.declared.Reading.{Reading}
 use Rattle.relay.specs.declared.Row.{Row}
-use Rattle.relay.specs.Link.{token, link_of, letter, reading}
+use Rattle.relay.specs.Link.{Link, link_of, letter, reading}
 use Rattle.relay.specs.Station.{held, station_of, clear, place_after}
 use Rattle.relay.specs.Row.{stopped, leaving, row_after}
 use Rattle.relay.specs.RowCycle.{places, row_cycle}
@@ -31,11 +31,11 @@ abbrev bits : List ℕ → List Bool
 bits [] = []
 bits (x ∷ xs) = eqb x 1 ∷ bits xs
 
--- ---- 004, table 1: "Valid 0111110011 with stop 0011000110 reads I T R R T T I S R T". The wires show 7 throughout, also while there is no token
+-- ---- "Valid 0111110011 with stop 0011000110 reads I T R R T T I S R T". Each token is a 7
 abbrev readings : List Bool → List Bool → List Reading
 readings [] stops = []
 readings (valid ∷ valids) [] = []
-readings (valid ∷ valids) (stop ∷ stops) = reading (record { valid = valid; value = pos 7 }) stop ∷ readings valids stops
+readings (valid ∷ valids) (stop ∷ stops) = reading (then_some valid (pos 7)) stop ∷ readings valids stops
 
 table1 :
     readings (bits (0 ∷ 1 ∷ 1 ∷ 1 ∷ 1 ∷ 1 ∷ 0 ∷ 0 ∷ 1 ∷ 1 ∷ [])) (bits (0 ∷ 0 ∷ 1 ∷ 1 ∷ 0 ∷ 0 ∷ 0 ∷ 1 ∷ 1 ∷ 0 ∷ [])) ≡
@@ -59,14 +59,13 @@ stops_above row [] stops = []
 stops_above row (x ∷ xs) [] = []
 stops_above row (x ∷ xs) (stop ∷ stops) = stopped row stop ∷ stops_above (row_after (on x) row stop) xs stops
 
--- 000, figure 6, cycles 1 to 11, a token A_x written x: dataIn with voidIn, stop_in, what leaves, stopOut. The figure's station shows a token in
--- cycle 1; ours starts empty
+-- a station through eleven cycles: what enters, the stop below, what leaves, and the stop above. Its second place fills in cycle 9, and holds up 7
 figure6 :
     let enter : List ℕ = 1 ∷ 0 ∷ 2 ∷ 0 ∷ 3 ∷ 4 ∷ 0 ∷ 5 ∷ 6 ∷ 7 ∷ 7 ∷ [] in
     let stop = bits (0 ∷ 0 ∷ 0 ∷ 0 ∷ 1 ∷ 0 ∷ 1 ∷ 0 ∷ 1 ∷ 0 ∷ 0 ∷ []) in
     (leaves ([] ∷ []) enter stop ≡ i ∷ t 1 ∷ i ∷ t 2 ∷ s ∷ t 3 ∷ r 4 ∷ t 4 ∷ r 5 ∷ t 5 ∷ t 6 ∷ []) ×
     (stops_above ([] ∷ []) enter stop ≡ bits (0 ∷ 0 ∷ 0 ∷ 0 ∷ 0 ∷ 0 ∷ 0 ∷ 0 ∷ 0 ∷ 1 ∷ 0 ∷ []))
-unfolding reading letter link_of stopped leaving row_after place_after
+unfolding reading letter stopped leaving row_after place_after
 figure6 = (refl, refl)
 
 -- two stations: tokens 1 to 7 come in, are held up until both stations are full, and leave in order
@@ -76,7 +75,7 @@ two_stations :
     (leaves ([] ∷ [] ∷ []) enter stop ≡
     i ∷ i ∷ r 1 ∷ r 1 ∷ r 1 ∷ t 1 ∷ r 2 ∷ t 2 ∷ t 3 ∷ r 4 ∷ r 4 ∷ t 4 ∷ r 5 ∷ t 5 ∷ t 6 ∷ t 7 ∷ []) ×
     (stops_above ([] ∷ [] ∷ []) enter stop ≡ bits (0 ∷ 0 ∷ 0 ∷ 0 ∷ 1 ∷ 1 ∷ 1 ∷ 0 ∷ 1 ∷ 0 ∷ 0 ∷ 1 ∷ 1 ∷ 0 ∷ 0 ∷ 0 ∷ []))
-unfolding reading letter link_of stopped leaving row_after place_after
+unfolding reading letter stopped leaving row_after place_after
 two_stations = (refl, refl)
 
 -- ---- records
@@ -100,14 +99,14 @@ abbrev eight : Row
 eight = record { stations = replicate 8 (station_of (pos 1 ∷ [])) }
 
 abbrev offer : Link
-offer = record { valid = true; value = pos 2 }
+offer = Some (pos 2)
 
 lengths :
     (row_cycle eight 0 offer true ≡ record { row = eight; leaving = offer; taken = false }) ×
     (row_cycle eight 1 offer false ≡
     record {
       row = record { stations = station_of (pos 2 ∷ []) ∷ replicate 7 (station_of (pos 1 ∷ [])) };
-      leaving = record { valid = true; value = pos 1 };
+      leaving = Some (pos 1);
       taken = true;
     }) ×
     (row_cycle eight 8 offer true ≡
@@ -116,9 +115,9 @@ lengths :
           record {
             stations = station_of (pos 2 ∷ []) ∷ replicate 6 (station_of (pos 1 ∷ [])) ++ (station_of (pos 1 ∷ pos 1 ∷ []) ∷ []);
           };
-      leaving = record { valid = true; value = pos 1 };
+      leaving = Some (pos 1);
       taken = true;
     }) ×
     (row_cycle eight 9 offer true ≡ row_cycle eight 8 offer true)
-unfolding token link_of held station_of place_after stopped leaving row_after places row_cycle padded
+unfolding held station_of place_after stopped leaving row_after places row_cycle padded
 lengths = (refl, refl, refl, refl)

@@ -1,18 +1,20 @@
--- A link between two places of a channel. What a link shows is a list: its token while it is valid, and nothing while it is void.
-use Rattle.std.specs.Prelude.{Bool, true, false, List, [], ◌∷◌, ℕ, ℤ, pos}
+-- A link between two places of a channel shows a token, or none while it is void. As a list it is that token alone, or empty.
+use Rattle.std.specs.Prelude.{Bool, Option, None, Some, is_some, unwrap_or, List, [], ◌∷◌, ℕ, ℤ, pos}
+use Rattle.std.specs.Option.{option_to_list}
 use Rattle.laws.specs.Choice.{◌if◌else◌}
-use Rattle.laws.specs.Lists.{one_if}
-use Rattle.relay.specs.declared.Link.{Link}
 use Rattle.relay.specs.declared.Reading.{Reading}
 
--- the token that a link shows, if it is valid
-unfoldable pub token : Link → List ℤ
-token link = one_if link.valid link.value
+abbrev pub Link : Type 0
+Link = Option ℤ
 
--- the link that leaves a place: "valid while [it] holds a token, and shows the oldest". A void link's value is 0
-unfoldable pub link_of : List ℤ → Link
-link_of [] = record { valid = false; value = pos 0 }
-link_of (x ∷ xs) = record { valid = true; value = x }
+-- the token that a link shows, if it is valid
+abbrev pub token : Link → List ℤ
+token link = option_to_list link
+
+-- the link that leaves a place: "valid while [it] holds a token, and shows the oldest"
+abbrev pub link_of : List ℤ → Link
+link_of [] = None
+link_of (x ∷ xs) = Some x
 
 -- "A token passes on a link exactly when the link is valid and not stopped. A stop on a void link has no effect."
 abbrev pub passing : List ℤ → Bool → List ℤ
@@ -28,4 +30,4 @@ letter valid stop = (82 if stop else 84) if valid else (83 if stop else 73)
 
 -- "T and R carry the shown value; I and S carry 0"
 unfoldable pub reading : Link → Bool → Reading
-reading link stop = record { letter = letter link.valid stop; value = link.value if link.valid else pos 0 }
+reading link stop = record { letter = letter (is_some link) stop; value = unwrap_or link (pos 0) }

@@ -1,53 +1,45 @@
 -- Laws of links. Assumes nothing.
-use Rattle.std.specs.Prelude.{Bool, true, false, not, ◌&&◌, List, [], ◌∷◌, ◌++◌, ◌≡◌, refl, ℕ, zero, suc, ◌<◌, ◌≤◌, eqb, ltb, ℤ, pos, length, get_or, take}
+use Rattle.std.specs.Prelude.{None, Some, is_some, Bool, true, false, not, ◌&&◌, List, [], ◌∷◌, ◌++◌, ◌≡◌, refl, ℕ, zero, suc, ◌<◌, ◌≤◌, eqb, ltb, ℤ, pos, length, get_or, take}
 use Rattle.std.proofs.lemmas.Bool.{false≢true}
-use Rattle.std.proofs.Common.{append-nil, sym, not-suc-le-zero, arith, lt-ltb}
+use Rattle.std.proofs.Common.{append-nil, sym, ap, not-suc-le-zero, arith, lt-ltb}
 use Rattle.laws.specs.Lists.{holds, one_if}
-use Rattle.laws.specs.ListsLaws.{one_if_few}
-use Rattle.relay.specs.declared.Link.{Link}
-use Rattle.relay.specs.Link.{token, link_of, passing, staying, letter, reading}
+use Rattle.relay.specs.Link.{Link, token, link_of, passing, staying, letter, reading}
 
 -- a link shows one token at most
 pub token_few : (link : Link) → length (token link) ≤ 1
-unfolding token
-token_few link = one_if_few link.valid link.value
+token_few None = omega arith
+token_few (Some x) = omega arith
 
--- a valid link is all that there is to tell of it
-pub link_valid : (link : Link) → link.valid ≡ true → link ≡ link_of (token link)
-unfolding token link_of
-link_valid link e = rw e
+-- and there is no more to tell of it
+pub link_own : (link : Link) → link ≡ link_of (token link)
+link_own None = refl
+link_own (Some x) = refl
 
 -- the link that leaves a place shows its oldest token
 pub token_of : (place : List ℤ) → token (link_of place) ≡ take 1 place
-unfolding token link_of
 token_of [] = refl
 token_of (x ∷ xs) = refl
 
 -- the same from a record's places: n of them hold a token
-pub link_take : (n : ℕ) (l : List ℤ) → 0 < n → 0 < length l → link_of (take n l) ≡ record { valid = true; value = get_or l 0 (pos 0) }
-unfolding link_of
+pub link_take : (n : ℕ) (l : List ℤ) → 0 < n → 0 < length l → link_of (take n l) ≡ Some (get_or l 0 (pos 0))
 link_take zero l h k = absurd (not-suc-le-zero h)
 link_take (suc n) [] h k = absurd (not-suc-le-zero k)
 link_take (suc n) (x ∷ l) h k = refl
 
 -- what stands behind the oldest token is not shown
-pub link_first : (xs ys : List ℤ) → (link_of xs).valid ≡ true → link_of (xs ++ ys) ≡ link_of xs
-unfolding link_of
+pub link_first : (xs ys : List ℤ) → is_some (link_of xs) ≡ true → link_of (xs ++ ys) ≡ link_of xs
 link_first [] ys e = absurd (false≢true e)
 link_first (x ∷ xs) ys e = refl
 
-pub valid_holds : (xs : List ℤ) → (link_of xs).valid ≡ true → holds xs ≡ true
-unfolding link_of
+pub valid_holds : (xs : List ℤ) → is_some (link_of xs) ≡ true → holds xs ≡ true
 valid_holds [] e = e
 valid_holds (x ∷ xs) e = refl
 
-pub valid_count : (xs : List ℤ) → (link_of xs).valid ≡ ltb 0 (length xs)
-unfolding link_of
+pub valid_count : (xs : List ℤ) → is_some (link_of xs) ≡ ltb 0 (length xs)
 valid_count [] = refl
 valid_count (x ∷ xs) = sym (lt-ltb 0 (suc (length xs)) (omega arith))
 
 pub link_of-take : (place : List ℤ) → link_of (take 1 place) ≡ link_of place
-unfolding link_of
 link_of-take [] = refl
 link_of-take (x ∷ place) = refl
 
@@ -65,31 +57,21 @@ passing_few link true h = omega arith
 passing_few link false h = h
 
 -- a token passes exactly when the link is valid and not stopped
-passing_flag : (valid stop : Bool) (x : ℤ) → holds (passing (one_if valid x) stop) ≡ valid && not stop
-passing_flag true true x = refl
-passing_flag true false x = refl
-passing_flag false true x = refl
-passing_flag false false x = refl
-
-pub passing-holds : (link : Link) (stop : Bool) → holds (passing (token link) stop) ≡ link.valid && not stop
-unfolding token
-passing-holds link stop = passing_flag link.valid stop link.value
+pub passing-holds : (link : Link) (stop : Bool) → holds (passing (token link) stop) ≡ is_some link && not stop
+passing-holds None true = refl
+passing-holds None false = refl
+passing-holds (Some x) true = refl
+passing-holds (Some x) false = refl
 
 -- a reading tells no more than the token,
-reading_flag : (valid stop : Bool) (x : ℤ) → reading (record { valid = valid; value = x }) stop ≡ reading (link_of (one_if valid x)) stop
-unfolding reading link_of
-reading_flag true stop x = refl
-reading_flag false stop x = refl
-
 pub reading-token : (link : Link) (stop : Bool) → reading link stop ≡ reading (link_of (token link)) stop
-unfolding token
-reading-token link stop = reading_flag link.valid stop link.value
+reading-token link stop = ap (λ (l : Link). reading l stop) (link_own link)
 
 -- and the value of a letter T is what passes
 pub letter-passing :
     (link : List ℤ) (stop : Bool) → length link ≤ 1
     → let r = reading (link_of link) stop in one_if (eqb r.letter 84) r.value ≡ passing link stop
-unfolding link_of letter reading
+unfolding letter reading
 letter-passing [] true h = refl
 letter-passing [] false h = refl
 letter-passing (x ∷ []) true h = refl

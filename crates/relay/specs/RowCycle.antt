@@ -1,11 +1,10 @@
 -- A row of station records in one cycle: what `Row::cycle` answers.
 use Rattle.std.specs.Prelude.{Bool, List, [], map, ◌++◌, ℕ, ℤ, get_or, take, drop}
 use Rattle.laws.specs.Lists.{holds}
-use Rattle.relay.specs.declared.Link.{Link}
 use Rattle.relay.specs.declared.Station.{Station}
 use Rattle.relay.specs.declared.Row.{Row}
 use Rattle.relay.specs.declared.RowCycle.{RowCycle}
-use Rattle.relay.specs.Link.{token, link_of, passing}
+use Rattle.relay.specs.Link.{Link, token, link_of, passing}
 use Rattle.relay.specs.Station.{held, station_of}
 use Rattle.relay.specs.Row.{stopped, leaving, row_after}
 

@@ -1,5 +1,5 @@
 -- Laws of a row of records: each of its places, links and stops by index, and the loop over it. Assumes nothing.
-use Rattle.std.specs.Prelude.{Bool, not, ◌&&◌, ◌≡◌, refl, ℤ, get_or, take, drop}
+use Rattle.std.specs.Prelude.{is_some, Bool, not, ◌&&◌, ◌≡◌, refl, ℤ, get_or, take, drop}
 use mathlib.Core.List.{List, [], map}
 use Rattle.std.proofs.Common.{sym, ◌∙◌, not-suc-le-zero, arith, length-take, get_or-take, take_all}
 use Rattle.std.proofs.Math.Path.{ap}
@@ -9,10 +9,9 @@ use Rattle.std.proofs.lemmas.List.{length-map}
 use Rattle.laws.specs.Table.{table, table_over}
 use Rattle.laws.specs.TableLaws.{table-map}
 use Rattle.laws.specs.ListsLaws.{take_min, drop_min}
-use Rattle.relay.specs.declared.Link.{Link}
 use Rattle.relay.specs.declared.Row.{Row}
 use Rattle.relay.specs.declared.RowCycle.{RowCycle}
-use Rattle.relay.specs.Link.{token, link_of}
+use Rattle.relay.specs.Link.{Link, token, link_of}
 use Rattle.relay.specs.LinkLaws.{link_of-take, token_of, token_few, passing-holds}
 use Rattle.relay.specs.Station.{held, station_of, place_after}
 use Rattle.relay.specs.Row.{stopped, row_after, link_at}
@@ -78,7 +77,7 @@ module _ (row : Row) (long : length row.stations ≡ 8) (n : ℕ) (short : n ≤
       (m : ℕ) → n ≡ min m 8 → (after : Row) (out : Link) (held_up : Bool)
       → after ≡ record { stations = table_over (station_after row n link stop) n row.stations }
       → out ≡ link_of (link_at (token link) (places row 8) n) → held_up ≡ stopped (places row n) stop
-      → ◌≡◌ {A = RowCycle} (record { row = after; leaving = out; taken = link.valid && not held_up }) (row_cycle row m link stop)
+      → ◌≡◌ {A = RowCycle} (record { row = after; leaving = out; taken = is_some link && not held_up }) (row_cycle row m link stop)
   unfolding row_cycle table_over
   cycle_turn m e after out held_up a b d =
       let k : min m (length row.stations) ≡ n = rw long (sym e) in

@@ -1,22 +1,21 @@
 -- Laws of a station: its tokens and its record say the same, it never holds more than two, and its unused places are 0. Assumes nothing.
-use Rattle.std.specs.Prelude.{Bool, not, ◌&&◌, ◌≡◌, ℕ, ◌≤◌, ◌<◌, min, leb, eqb, ℤ, pos, length}
+use Rattle.std.specs.Prelude.{Some, Bool, not, ◌&&◌, ◌≡◌, ℕ, ◌≤◌, ◌<◌, min, leb, eqb, ℤ, pos, length}
 use Rattle.std.proofs.Math.Bool.{true, false}
 use Rattle.std.proofs.Math.Logic.{⊎_elim}
 use mathlib.Core.List.{List, [], ◌∷◌, ◌++◌}
 use Rattle.std.proofs.Math.Path.{refl, ap}
-use Rattle.std.proofs.Common.{sym, ap₂, ◌∙◌, not-suc-le-zero, eq-eqb, length-take}
+use Rattle.std.proofs.Common.{eqb-true, sym, ap₂, ◌∙◌, not-suc-le-zero, eq-eqb, length-take}
 use native.Mathlib.Omega.{arith}
 use Rattle.std.proofs.Math.ListN.{get_or, take}
 use Rattle.std.proofs.Math.Seq.{take_all}
-use Rattle.laws.specs.Cases.{lt-or-ge}
+use Rattle.laws.specs.Cases.{and_left, and_right, lt-or-ge}
 use Rattle.laws.specs.Table.{table}
 use Rattle.laws.specs.TableLaws.{table_own}
 use Rattle.laws.specs.Lists.{holds_two, drop_if, Stored}
 use Rattle.laws.specs.ListsLaws.{two_count, take-padded, stored-padded, stored_own, stored_count}
 use Rattle.laws.specs.TestsLaws.{le_iff, test_same}
-use Rattle.relay.specs.declared.Link.{Link}
 use Rattle.relay.specs.declared.Station.{Station}
-use Rattle.relay.specs.Link.{token, link_of}
+use Rattle.relay.specs.Link.{Link, token, link_of}
 use Rattle.relay.specs.LinkLaws.{link_take, token_few}
 use Rattle.relay.specs.Station.{held, station_of, place_after}
 
@@ -71,7 +70,7 @@ module _ (s : Station) (long : length s.tokens ≡ 2) where
   held_two h = take_all s.count s.tokens (omega arith) ∙ both
 
   -- so its link, its stop and its next cycle are those of its tokens
-  pub link_held : 0 < s.count → link_of (held s) ≡ record { valid = true; value = get_or s.tokens 0 (pos 0) }
+  pub link_held : 0 < s.count → link_of (held s) ≡ Some (get_or s.tokens 0 (pos 0))
   unfolding held
   link_held h = link_take s.count s.tokens h (omega arith)
 
@@ -79,17 +78,24 @@ module _ (s : Station) (long : length s.tokens ≡ 2) where
   unfolding held
   length-held = rw (length-take, long)
 
-  pub full-held : holds_two (held s) ≡ leb 2 s.count
-  full-held =
+  pub full_held : holds_two (held s) ≡ leb 2 s.count
+  full_held =
       let same = le_iff 2 (length (held s)) in
       two_count (held s)
       ∙ test_same (leb 2 (length (held s))) (leb 2 s.count)
       (λ e. omega (arith, same.0 e, length-held), λ h. same.1 (omega (arith, length-held))) (le_iff 2 s.count)
 
-  -- a station that is not full, and keeps no token, holds what passes
-  pub after-clear : (link : List ℤ) (stop : Bool) → s.count < 2 → eqb s.count 1 && stop ≡ false → place_after link (held s) stop ≡ link
+  -- a station that keeps its one token holds that, and then what passes
+  pub after_kept : (link : List ℤ) (stop : Bool) → eqb s.count 1 && stop ≡ true → place_after link (held s) stop ≡ get_or s.tokens 0 (pos 0) ∷ link
   unfolding place_after
-  after-clear link stop l e =
+  after_kept link stop e =
+      let q : s.count ≡ 1 = eqb-true s.count 1 (and_left (eqb s.count 1) stop e) in
+      rw (held_one q, and_right (eqb s.count 1) stop e)
+
+  -- one that is not full, and keeps no token, holds what passes
+  pub after_clear : (link : List ℤ) (stop : Bool) → s.count < 2 → eqb s.count 1 && stop ≡ false → place_after link (held s) stop ≡ link
+  unfolding place_after
+  after_clear link stop l e =
       ⊎_elim
       (λ (z : s.count < 1). let q : s.count ≡ 0 = omega arith in rw (held_none q) (nothing stop))
       (λ (z : 1 ≤ s.count). let q : s.count ≡ 1 = omega arith in rw (held_one q) (rw (rw (eq-eqb s.count 1 q) at e)))

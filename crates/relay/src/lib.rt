@@ -8,14 +8,11 @@ ghost use Rattle.relay.specs.Station.{held, station_of, clear, place_after};
 ghost use Rattle.relay.specs.Row.{stopped, link_at};
 ghost use Rattle.relay.specs.RowCycle.{places, row_cycle, station_after};
 
-// What a link shows: a token while it is valid. The value of a void link is not looked at.
-#[derive(Clone, Copy)]
-pub struct Link {
-    pub valid: bool,
-    pub value: i32,
-}
+// What a link shows: a token, or none while it is void.
+pub type Link = Option<i32>;
 
-// What a trace says of a link: its letter, an ASCII capital, and the value beside it.
+// What a trace says of a link: its letter, an ASCII capital, and the value beside it. No `Option`: the
+// C interface hands letters and values out in arrays of bytes and of numbers.
 #[derive(Clone, Copy)]
 pub struct Reading {
     pub letter: u8,
@@ -44,45 +41,21 @@ pub struct RowCycle {
     pub taken: bool,
 }
 
-impl Link {
-    // The letter and the value of a link that is stopped, or is not.
-    pub fn reading(self, stop: bool) -> Reading
-        ensures { result ≡ reading self stop }
+impl Reading {
+    // The reading of a link that is stopped, or is not.
+    #[tactic(auto, unfolding(crate::specs::Link::reading, crate::specs::Link::letter))]
+    pub fn of(link: Link, stop: bool) -> Self
+        ensures { result ≡ reading link stop }
     {
-        if self.valid {
-            if stop {
-                return Reading {
-                    letter: b'R',
-                    value: self.value,
-                };
-            }
-            return Reading {
-                letter: b'T',
-                value: self.value,
-            };
-        }
-        if stop {
-            return Reading {
-                letter: b'S',
-                value: 0,
-            };
-        }
+        let letter = match (link, stop) {
+            (Some(_), true) => b'R',
+            (Some(_), false) => b'T',
+            (None, true) => b'S',
+            (None, false) => b'I',
+        };
         Reading {
-            letter: b'I',
-            value: 0,
-        }
-    }
-
-    // The same link, with the value 0 if it is void.
-    fn shown(self) -> Self
-        ensures { result ≡ link_of (token self) }
-    {
-        if self.valid {
-            return self;
-        }
-        Link {
-            valid: false,
-            value: 0,
+            letter,
+            value: link.unwrap_or(0),
         }
     }
 }
@@ -92,6 +65,7 @@ impl Station {
     pub const DEPTH: u8 = 2;
 
     // A station that holds no token; below it, those that hold one and two.
+    #[tactic(auto, unfolding(crate::specs::Station::station_of, laws::specs::Lists::padded))]
     pub fn empty() -> Self
         ensures { result ≡ station_of [] }
     {
@@ -101,6 +75,7 @@ impl Station {
         }
     }
 
+    #[tactic(auto, unfolding(crate::specs::Station::station_of, laws::specs::Lists::padded))]
     fn one(token: i32) -> Self
         ensures { result ≡ station_of (token ∷ []) }
     {
@@ -110,6 +85,7 @@ impl Station {
         }
     }
 
+    #[tactic(auto, unfolding(crate::specs::Station::station_of, laws::specs::Lists::padded))]
     fn pair(older: i32, newer: i32) -> Self
         ensures { result ≡ station_of (older ∷ newer ∷ []) }
     {
@@ -120,24 +96,18 @@ impl Station {
     }
 
     // The link that leaves it.
-    #[tactic(auto, using(crate::specs::StationLaws::held_none), unfolding(crate::specs::Link::link_of))]
+    #[tactic(auto, using(crate::specs::StationLaws::held_none, crate::specs::StationLaws::link_held))]
     pub fn link(self) -> Link
         ensures { result ≡ link_of (held self) }
     {
         if self.count == 0 {
-            return Link {
-                valid: false,
-                value: 0,
-            };
+            return None;
         }
-        let shown = self.tokens[0];
-        Link {
-            valid: true,
-            value: shown,
-        }
+        Some(self.tokens[0])
     }
 
     // Whether it holds two tokens, which stops the link that enters it.
+    #[tactic(auto, using(crate::specs::StationLaws::full_held))]
     pub fn full(self) -> bool
         ensures { result ≡ holds_two (held self) }
     {
@@ -145,24 +115,23 @@ impl Station {
     }
 
     // Whether every place that holds no token is 0.
+    #[tactic(auto, using(laws::specs::SignedLaws::zero_bits), unfolding(laws::specs::Lists::zero_from, laws::specs::Below::all_below))]
     pub fn clear(self) -> bool
         ensures { result ≡ clear self }
     {
         let count = self.count;
-        let first = self.tokens[0];
-        let second = self.tokens[1];
+        let [first, second] = self.tokens;
         ((0 < count) | (first == 0)) & ((1 < count) | (second == 0))
     }
 
     // It after a cycle, from the link that enters it and the stop on the one that leaves it. A count
     // over two is read as two, and a token that is not held is not looked at.
+    #[tactic(auto, using(crate::specs::StationLaws::after_kept, crate::specs::StationLaws::held_two, crate::specs::StationLaws::after_clear), unfolding(crate::specs::Station::place_after))]
     pub fn after(self, link: Link, stop: bool) -> Self
         ensures { result ≡ station_of (place_after (token link) (held self) stop) }
     {
         let count = self.count;
-        let oldest = self.tokens[0];
-        let newer = self.tokens[1];
-        let offered = link.value;
+        let [oldest, newer] = self.tokens;
         if Station::DEPTH <= count {
             if stop {
                 return Station::pair(oldest, newer);
@@ -170,15 +139,15 @@ impl Station {
             return Station::one(newer);
         }
         if (count == 1) & stop {
-            if link.valid {
-                return Station::pair(oldest, offered);
-            }
-            return Station::one(oldest);
+            return match link {
+                Some(token) => Station::pair(oldest, token),
+                None => Station::one(oldest),
+            };
         }
-        if link.valid {
-            return Station::one(offered);
+        match link {
+            Some(token) => Station::one(token),
+            None => Station::empty(),
         }
-        Station::empty()
     }
 }
 
@@ -186,11 +155,7 @@ impl Station {
 fn within(length: u8) -> usize
     ensures { (result ≡ min length 8) × (result ≤ 8) }
 {
-    if length < Row::LENGTH {
-        length as usize
-    } else {
-        Row::LENGTH as usize
-    }
+    length.min(Row::LENGTH) as usize
 }
 
 impl Row {
@@ -198,15 +163,15 @@ impl Row {
     pub const LENGTH: u8 = 8;
 
     // What link j shows: link 0 as given, link j above 0 by the station before it.
+    #[tactic(auto, using(crate::specs::LinkLaws::link_own, crate::specs::RowCycleLaws::link_above), unfolding(crate::specs::Row::link_at))]
     fn link_at(self, link: Link, j: usize) -> Link
         requires { j ≤ 8 }
         ensures { result ≡ link_of (link_at (token link) (places self 8) j) }
     {
         if j == 0 {
-            return link.shown();
+            return link;
         }
-        let station = self.stations[j - 1];
-        station.link()
+        self.stations[j - 1].link()
     }
 
     // Whether link j of the first n stations is stopped: by the station after it, or as given.
@@ -215,8 +180,7 @@ impl Row {
         ensures { result ≡ stopped (drop j (places self n)) stop }
     {
         if j < n {
-            let station = self.stations[j];
-            return station.full();
+            return self.stations[j].full();
         }
         stop
     }
@@ -226,10 +190,9 @@ impl Row {
         requires { (n ≤ 8) × (j < n) }
         ensures { result ≡ station_after self n link stop j }
     {
-        let station = self.stations[j];
         let above = self.link_at(link, j);
         let below = self.stop_at(n, stop, j + 1);
-        station.after(above, below)
+        self.stations[j].after(above, below)
     }
 
     // One cycle of the first `length` stations, all of them if it is over eight, from the link that
@@ -240,18 +203,15 @@ impl Row {
     {
         let n = within(length);
         let mut row = self;
-        let mut j: usize = 0;
-        while j < n {
-            let station = self.station_after(n, link, stop, j);
-            row.stations[j] = station;
-            j += 1;
+        for j in 0..n {
+            row.stations[j] = self.station_after(n, link, stop, j);
         }
         let leaving = self.link_at(link, n);
         let held_up = self.stop_at(n, stop, 0);
         RowCycle {
             row,
             leaving,
-            taken: link.valid & !held_up,
+            taken: link.is_some() & !held_up,
         }
     }
 }

@@ -2,9 +2,8 @@
 use Rattle.std.specs.Prelude.{Bool, ◌&&◌, ◌||◌, List, [], ◌∷◌, ◌++◌, ℕ, ℤ, length}
 use Rattle.laws.specs.Choice.{◌if◌else◌}
 use Rattle.laws.specs.Lists.{drop_if}
-use Rattle.relay.specs.declared.Link.{Link}
 use Rattle.relay.specs.declared.Reading.{Reading}
-use Rattle.relay.specs.Link.{link_of, passing, staying, reading}
+use Rattle.relay.specs.Link.{Link, link_of, passing, staying, reading}
 use Rattle.relay.specs.Row.{stopped, leaving, row_after, contents}
 use Rattle.shell.specs.Queue.{full}
 

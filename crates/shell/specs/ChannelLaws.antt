@@ -1,5 +1,5 @@
 -- Laws of a channel in one cycle: first in, first out; the input is the oldest token; the queue stays within its depth. Assumes nothing.
-use Rattle.std.specs.Prelude.{Bool, true, false, ◌≡◌, refl, ℕ, ◌+◌, ◌≤◌, leb, ℤ, length}
+use Rattle.std.specs.Prelude.{is_some, Bool, true, false, ◌≡◌, refl, ℕ, ◌+◌, ◌≤◌, leb, ℤ, length}
 use Rattle.std.proofs.Common.{true≢false, ⊎_elim, ◌∙◌, arith, leb-false, length-append}
 use mathlib.Core.List.{List, [], ◌∷◌, ◌++◌, append_assoc, append-nil}
 use Rattle.std.proofs.Math.Path.{sym, ap}
@@ -8,8 +8,7 @@ use Rattle.laws.specs.Choice.{◌if◌else◌}
 use Rattle.laws.specs.Cases.{true_or_false}
 use Rattle.laws.specs.Lists.{holds, one_if, drop_if}
 use Rattle.laws.specs.ListsLaws.{drop_if-append, length-drop_if}
-use Rattle.relay.specs.declared.Link.{Link}
-use Rattle.relay.specs.Link.{link_of, passing, staying}
+use Rattle.relay.specs.Link.{Link, link_of, passing, staying}
 use Rattle.relay.specs.LinkLaws.{link_first, valid_holds, passing-staying}
 use Rattle.relay.specs.Row.{stopped, leaving, row_after, contents}
 use Rattle.relay.specs.RowLaws.{row_fifo, leaving-first, behind}
@@ -17,7 +16,7 @@ use Rattle.shell.specs.Queue.{full}
 use Rattle.shell.specs.Channel.{Channel, tokens, blocked, pending_after, arriving, input, stop_below, stop_above, channel_after}
 
 -- an input that is ready shows the oldest of all the channel's tokens
-pub oldest_first : (ch : Channel) → (input ch).valid ≡ true → link_of (tokens ch) ≡ input ch
+pub oldest_first : (ch : Channel) → is_some (input ch) ≡ true → link_of (tokens ch) ≡ input ch
 unfolding input tokens arriving
 oldest_first ch e =
     let rest = behind ch.source ch.row in
@@ -26,9 +25,9 @@ oldest_first ch e =
 
 -- a node that fires still finds a token once what passes is in the queue: only a queue that holds one is full
 pub still_ready :
-    (depth : ℕ) (queue link : List ℤ) → 1 ≤ depth → (link_of (queue ++ link)).valid ≡ true
+    (depth : ℕ) (queue link : List ℤ) → 1 ≤ depth → is_some (link_of (queue ++ link)) ≡ true
     → holds (queue ++ passing link (full depth (length queue))) ≡ true
-unfolding link_of full
+unfolding full
 still_ready depth [] link h e = rw (lt-leb depth 0 h) (valid_holds link e)
 still_ready depth (x ∷ queue) link h e = refl
 
@@ -62,7 +61,7 @@ module _ (depth : ℕ) (ch : Channel) (to from : Bool) (value : ℤ) where
   -- FIFO law of a channel: where its to node fires the first token is gone, and where its from node fires the new one is the last. A node fires only
   -- if its inputs are ready and no token that it sends is blocked
   pub channel_fifo :
-      1 ≤ depth → (to ≡ true → (input ch).valid ≡ true) → (from ≡ true → blocked (holds ch.source) (stop_above depth ch) ≡ false)
+      1 ≤ depth → (to ≡ true → is_some (input ch) ≡ true) → (from ≡ true → blocked (holds ch.source) (stop_above depth ch) ≡ false)
       → tokens (channel_after depth ch to from value) ≡ drop_if to (tokens ch) ++ one_if from value
   unfolding tokens channel_after stop_below stop_above arriving input
   channel_fifo deep ready clear =
@@ -77,7 +76,7 @@ module _ (depth : ℕ) (ch : Channel) (to from : Bool) (value : ℤ) where
       ∙ ap (λ (t : List ℤ). drop_if to t)
       (regroup ch.queue a (contents ch.row) after ch.source (passing ch.source above) stay new
       (row_fifo ch.source ch.row stop) (passing-staying ch.source above))
-      ∙ drop_if-append (tokens ch) new to (λ e. valid_holds (tokens ch) (ap (λ (l : Link). l.valid) (oldest_first ch (ready e)) ∙ ready e))
+      ∙ drop_if-append (tokens ch) new to (λ e. valid_holds (tokens ch) (ap (λ (l : Link). is_some l) (oldest_first ch (ready e)) ∙ ready e))
 
 -- what the from node shows as pending, after the cycle
 pub source_after :

@@ -1,10 +1,10 @@
--- The definitions here, computed: the second channel of source document 000's figure 4, a channel with two stations that fills up and runs empty, and
+-- The definitions here, computed: the second channel of figure 4, a channel with two stations that fills up and runs empty, and
 -- a queue's record.
-use Rattle.std.specs.Prelude.{true, false, not, ◌&&◌, List, [], ◌∷◌, ◌++◌, map, ◌≡◌, refl, ℕ, zero, suc, eqb, ℤ, pos, drop}
+use Rattle.std.specs.Prelude.{is_some, true, false, not, ◌&&◌, List, [], ◌∷◌, ◌++◌, map, ◌≡◌, refl, ℕ, zero, suc, eqb, ℤ, pos, drop}
 use Rattle.laws.specs.Choice.{◌if◌else◌}
 use Rattle.laws.specs.Lists.{holds, padded}
 use Rattle.relay.specs.declared.Reading.{Reading}
-use Rattle.relay.specs.Link.{link_of, letter, reading}
+use Rattle.relay.specs.Link.{letter, reading}
 use Rattle.relay.specs.Station.{place_after}
 use Rattle.relay.specs.Row.{stopped, leaving, row_after}
 use Rattle.shell.specs.Queue.{queue_of, full, pushed, popped, queue_after}
@@ -28,7 +28,7 @@ states depth ch v (to ∷ tos) [] = ch ∷ []
 states depth ch v (to ∷ tos) (from ∷ froms) =
     let fires = eqb from 1 && not (blocked (holds ch.source) (stop_above depth ch)) in
     let v' = suc v if fires else v in
-    ch ∷ states depth (channel_after depth ch (eqb to 1 && (input ch).valid) fires (pos v')) v' tos froms
+    ch ∷ states depth (channel_after depth ch (eqb to 1 && is_some (input ch)) fires (pos v')) v' tos froms
 
 abbrev fresh : ℕ → List (List ℤ) → Channel
 fresh v row = record { source = pos v ∷ []; row = row; queue = [] }
@@ -37,7 +37,7 @@ fresh v row = record { source = pos v ∷ []; row = row; queue = [] }
 figure4 :
     map (seen 2) (states 2 (fresh 100 []) 100 (1 ∷ 0 ∷ 1 ∷ 1 ∷ 0 ∷ 1 ∷ 1 ∷ 1 ∷ 0 ∷ 1 ∷ 1 ∷ []) (1 ∷ 1 ∷ 1 ∷ 1 ∷ 1 ∷ 1 ∷ 0 ∷ 0 ∷ 1 ∷ 1 ∷ 1 ∷ [])) ≡
     t 100 ∷ t 101 ∷ t 102 ∷ t 103 ∷ t 104 ∷ r 105 ∷ t 105 ∷ i ∷ i ∷ t 106 ∷ t 107 ∷ t 108 ∷ []
-unfolding letter reading link_of stopped leaving row_after place_after full blocked arriving input stop_below stop_above seen channel_after
+unfolding letter reading stopped leaving row_after place_after full blocked arriving input stop_below stop_above seen channel_after
 figure4 = refl
 
 -- two stations and a queue of two: the to node waits until all is full, takes two tokens with stops between them, and then runs freely
@@ -46,7 +46,7 @@ two_stations :
     (0 ∷ 0 ∷ 0 ∷ 0 ∷ 0 ∷ 0 ∷ 0 ∷ 0 ∷ 1 ∷ 0 ∷ 1 ∷ 1 ∷ 1 ∷ 1 ∷ 1 ∷ 1 ∷ 1 ∷ 1 ∷ [])
     (1 ∷ 1 ∷ 1 ∷ 1 ∷ 1 ∷ 1 ∷ 1 ∷ 1 ∷ 1 ∷ 1 ∷ 1 ∷ 1 ∷ 0 ∷ 0 ∷ 0 ∷ 0 ∷ 1 ∷ 1 ∷ [])) ≡
     i ∷ i ∷ t 1 ∷ t 2 ∷ r 3 ∷ r 3 ∷ r 3 ∷ r 3 ∷ r 3 ∷ t 3 ∷ r 4 ∷ t 4 ∷ t 5 ∷ t 6 ∷ t 7 ∷ t 8 ∷ i ∷ i ∷ i ∷ []
-unfolding letter reading link_of stopped leaving row_after place_after full blocked arriving input stop_below stop_above seen channel_after
+unfolding letter reading stopped leaving row_after place_after full blocked arriving input stop_below stop_above seen channel_after
 two_stations = refl
 
 -- ---- the record: a queue of eight that is full, has no place for a ninth, and hands on its first; a depth of 1 is full with one token

@@ -1,13 +1,12 @@
 -- Laws of queues, at every depth at once: what push, pop and a cycle do to the tokens held, and that unused places stay 0. Assumes nothing.
-use Rattle.std.specs.Prelude.{Bool, true, false, not, ◌&&◌, List, [], ◌∷◌, ◌++◌, ◌≡◌, refl, ℕ, suc, ◌+◌, ◌-◌, ◌<◌, ◌≤◌, ltb, ℤ, pos, length, get_or, drop, set}
+use Rattle.std.specs.Prelude.{None, Some, is_some, unwrap_or, Bool, true, false, not, ◌&&◌, List, [], ◌∷◌, ◌++◌, ◌≡◌, refl, ℕ, suc, ◌+◌, ◌-◌, ◌<◌, ◌≤◌, ltb, ℤ, pos, length, get_or, drop, set}
 use Rattle.std.proofs.Common.{append-nil, sym, ap, ap₂, ◌∙◌, not-suc-le-zero, arith, lt-ltb, ne_eqb, length-append, drop_of_length-le}
 use Rattle.laws.specs.Table.{table}
 use Rattle.laws.specs.TableLaws.{table_own}
 use Rattle.laws.specs.Choice.{◌if◌else◌}
-use Rattle.laws.specs.Lists.{one_if, drop_if, Stored}
+use Rattle.laws.specs.Lists.{drop_if, Stored}
 use Rattle.laws.specs.ListsLaws.{take-padded, padded-set, padded-drop, stored-padded, stored_own, stored_count}
-use Rattle.relay.specs.declared.Link.{Link}
-use Rattle.relay.specs.Link.{token, link_of, passing}
+use Rattle.relay.specs.Link.{Link, token, link_of, passing}
 use Rattle.relay.specs.LinkLaws.{link_take, link_first}
 use Rattle.shell.specs.declared.Queue.{Queue}
 use Rattle.shell.specs.Queue.{waiting, queue_of, pushed, popped, queue_after}
@@ -87,33 +86,26 @@ popped_is q long =
 -- a queue that holds a token shows its first
 pub link_waiting :
     (q : Queue) (ys : List ℤ) → length q.tokens ≡ 8 → 0 < q.count
-    → link_of (waiting q ++ ys) ≡ record { valid = true; value = get_or q.tokens 0 (pos 0) }
+    → link_of (waiting q ++ ys) ≡ Some (get_or q.tokens 0 (pos 0))
 unfolding waiting
 link_waiting q ys long h =
     let e = link_take q.count q.tokens h (omega arith) in
-    link_first (waiting q) ys (ap (λ (l : Link). l.valid) e) ∙ e
+    link_first (waiting q) ys (ap (λ (l : Link). is_some l) e) ∙ e
 
 -- push, by the flags that the code tests
-pushed_flag :
-    (q : Queue) (valid stop : Bool) (x : ℤ)
-    → pushed q (passing (one_if valid x) stop) ≡
-    (record { tokens = set q.tokens q.count x; count = q.count + 1 } if (valid && not stop) && ltb q.count 8 else q)
-unfolding pushed
-pushed_flag q true true x = refl
-pushed_flag q true false x = refl
-pushed_flag q false true x = refl
-pushed_flag q false false x = refl
-
 pub push_flag :
     (q : Queue) (link : Link) (stop : Bool)
     → pushed q (passing (token link) stop) ≡
-    (record { tokens = set q.tokens q.count link.value; count = q.count + 1 } if (link.valid && not stop) && ltb q.count 8 else q)
-unfolding token
-push_flag q link stop = pushed_flag q link.valid stop link.value
+    (record { tokens = set q.tokens q.count (unwrap_or link (pos 0)); count = q.count + 1 } if (is_some link && not stop) && ltb q.count 8 else q)
+unfolding pushed
+push_flag q None true = refl
+push_flag q None false = refl
+push_flag q (Some x) true = refl
+push_flag q (Some x) false = refl
 
 -- a queue whose node does not fire, and to which nothing passes, stays
 pub after_idle :
-    (q : Queue) (link : Link) (stop fires : Bool) → fires ≡ false → link.valid && not stop ≡ false
+    (q : Queue) (link : Link) (stop fires : Bool) → fires ≡ false → is_some link && not stop ≡ false
     → queue_after q (passing (token link) stop) fires ≡ q
 unfolding queue_after pushed
 after_idle q link stop fires e z = rw (e, push_flag q link stop, z)

@@ -8,7 +8,8 @@ ghost use Rattle.shell.specs.Channel.{blocked, pending_after};
 
 use relay::Link;
 
-// A queue: its tokens from the first place on, oldest first. A place that holds none is 0.
+// A queue: its tokens from the first place on, oldest first. A place that holds none is 0. No vector: the
+// project's rules name this form, an array of eight and a count, as a station's of two.
 #[derive(Clone, Copy)]
 pub struct Queue {
     pub tokens: [i32; 8],
@@ -20,6 +21,7 @@ impl Queue {
     pub const DEPTH: u8 = 8;
 
     // A queue that holds no token.
+    #[tactic(auto, unfolding(crate::specs::Queue::queue_of, laws::specs::Lists::padded))]
     pub fn empty() -> Self
         ensures { result ≡ queue_of [] }
     {
@@ -30,6 +32,7 @@ impl Queue {
     }
 
     // Whether a queue of a depth is full, which stops the link that arrives at it.
+    #[tactic(auto, unfolding(crate::specs::Queue::full))]
     pub fn full(self, depth: u8) -> bool
         ensures { result ≡ full depth self.count }
     {
@@ -38,33 +41,27 @@ impl Queue {
 
     // What its node has to take, from the link that arrives: the oldest token here, or with an empty
     // queue the one on the link.
+    #[tactic(auto, using(relay::specs::LinkLaws::link_own, crate::specs::QueueLaws::link_waiting), unfolding(crate::specs::Queue::waiting))]
     pub fn input(self, link: Link) -> Link
         ensures { result ≡ link_of (waiting self ++ token link) }
     {
         if self.count == 0 {
-            if link.valid {
-                return link;
-            }
-            return Link {
-                valid: false,
-                value: 0,
-            };
+            return link;
         }
-        let oldest = self.tokens[0];
-        Link {
-            valid: true,
-            value: oldest,
-        }
+        Some(self.tokens[0])
     }
 
     // It with the link's token behind the others, if that passes and there is a place.
+    #[tactic(auto, using(crate::specs::QueueLaws::push_flag))]
     fn pushed(self, link: Link, stop: bool) -> Self
         ensures { result ≡ pushed self (passing (token link) stop) }
     {
         let mut queue = self;
-        let count = queue.count;
-        if (link.valid & !stop) & (count < Queue::DEPTH) {
-            let token = link.value;
+        let count = self.count;
+        if let Some(token) = link
+            && !stop
+            && count < Queue::DEPTH
+        {
             queue.tokens[count as usize] = token;
             queue.count = count + 1;
         }
@@ -72,27 +69,20 @@ impl Queue {
     }
 
     // It without its oldest token.
+
     fn popped(self) -> Self
         requires { 0 < self.count }
         ensures { result ≡ popped self }
     {
-        let tokens = [
-            self.tokens[1],
-            self.tokens[2],
-            self.tokens[3],
-            self.tokens[4],
-            self.tokens[5],
-            self.tokens[6],
-            self.tokens[7],
-            0,
-        ];
+        let [_, a, b, c, d, e, f, g] = self.tokens;
         Queue {
-            tokens,
+            tokens: [a, b, c, d, e, f, g, 0],
             count: self.count - 1,
         }
     }
 
     // It after a cycle, from the link that arrives, the stop on that link, and whether its node fires.
+    #[tactic(auto, unfolding(crate::specs::Queue::queue_after))]
     pub fn after(self, link: Link, stop: bool, fires: bool) -> Self
         ensures { result ≡ queue_after self (passing (token link) stop) fires }
     {
@@ -102,13 +92,13 @@ impl Queue {
         if self.count == 0 {
             return self;
         }
-        let rest = self.popped();
-        rest.pushed(link, stop)
+        self.popped().pushed(link, stop)
     }
 }
 
 // Whether a pending token keeps its node from firing, by the stop on link 0. A stop on a void link
 // does not.
+#[tactic(auto, unfolding(crate::specs::Channel::blocked))]
 pub fn blocked(pending: bool, stop: bool) -> bool
     ensures { result ≡ blocked pending stop }
 {
@@ -116,6 +106,7 @@ pub fn blocked(pending: bool, stop: bool) -> bool
 }
 
 // Whether a token is pending after a cycle, by the stop on link 0 and whether the from node fires.
+#[tactic(auto, unfolding(crate::specs::Channel::pending_after))]
 pub fn pending_after(pending: bool, stop: bool, fires: bool) -> bool
     ensures { result ≡ pending_after pending stop fires }
 {

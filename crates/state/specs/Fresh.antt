@@ -5,7 +5,7 @@ use Rattle.netlist.specs.Image.{parameter, from, stations}
 use Rattle.netlist.specs.Judge.{judge}
 use Rattle.relay.specs.Station.{station_of}
 use Rattle.shell.specs.Queue.{queue_of}
-use Rattle.state.specs.declared.Fresh.{Fresh}
+use Rattle.state.specs.Told.{Told}
 use Rattle.state.specs.declared.State.{State}
 use Rattle.state.specs.State.{no_node, state_of}
 
@@ -28,9 +28,9 @@ zeros =
     }
 
 -- 0 and the fresh state, or one of the numbers 1 to 11 and zeros
-unfoldable pub fresh_answer : List ℕ → Fresh
+unfoldable pub fresh_answer : List ℕ → Told
 fresh_answer img = record { number = judge img; state = fresh_state img if eqb (judge img) 0 else zeros }
 
 -- what a call for it has done: its contract ensures this record
-pub record FreshDone (img : List ℕ) (answer : Fresh) : Type 0 where
+pub record FreshDone (img : List ℕ) (answer : Told) : Type 0 where
   pub answered : answer ≡ fresh_answer img

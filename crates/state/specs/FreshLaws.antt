@@ -18,6 +18,7 @@ use Rattle.shell.specs.Queue.{queue_of}
 use Rattle.shell.specs.Channel.{tokens}
 use Rattle.state.specs.declared.Node.{Node}
 use Rattle.state.specs.declared.State.{State}
+use Rattle.state.specs.Told.{Told}
 use Rattle.state.specs.State.{no_node, node_at, firings_at, channel_in, state_of}
 use Rattle.state.specs.StateLaws.{node_of, channel_of}
 use Rattle.state.specs.Fresh.{fresh_state, zeros, fresh_answer}
@@ -115,10 +116,10 @@ zeros_of station queue e q = rw (e, q)
 -- the two answers, by the judge's number
 pub fresh_refused :
     (img : List ℕ) (number : ℕ) (s : State) → number ≡ judge img → s ≡ zeros → (judge img ≡ 0 → ⊥)
-    → record { number = number; state = s } ≡ fresh_answer img
+    → ◌≡◌ {A = Told} (record { number = number; state = s }) (fresh_answer img)
 unfolding fresh_answer
 fresh_refused img number s e z ne = rw (e, z, ne_eqb (judge img) 0 ne)
 
-pub fresh-made : (img : List ℕ) (s : State) → judge img ≡ 0 → s ≡ fresh_state img → record { number = 0; state = s } ≡ fresh_answer img
+pub fresh-made : (img : List ℕ) (s : State) → judge img ≡ 0 → s ≡ fresh_state img → ◌≡◌ {A = Told} (record { number = 0; state = s }) (fresh_answer img)
 unfolding fresh_answer
 fresh-made img s e z = rw (z, e)

@@ -1,9 +1,10 @@
 // The fresh state.
 ghost use Rattle.std.specs.Prelude.{◌≡◌};
-ghost use Rattle.netlist.specs.Accepted.{Accepted};
+ghost use Rattle.state.specs.Told.{told};
 ghost use Rattle.state.specs.Fresh.{zeros, fresh_state, FreshDone};
 
-use crate::{Fresh, Node, State};
+use crate::{Node, Refused, State};
+use netlist::Netlist;
 use relay::Station;
 use shell::Queue;
 
@@ -36,43 +37,35 @@ impl State {
 
     // An accepted image's fresh state: each node shows its parameter, which is pending on every
     // channel that it feeds.
-    fn started(image: &[u8]) -> Self
-        requires { Accepted image.now }
-        ensures { result ≡ fresh_state image.now }
+    fn started(netlist: Netlist) -> Self
+        ensures { result ≡ fresh_state netlist.entry.image.now }
     {
-        let nodes = netlist::nodes(image);
-        let channels = netlist::channels(image);
+        let nodes = netlist.nodes();
+        let channels = netlist.channels();
         let mut state = State::zeros();
         for n in 0..nodes {
-            let core = netlist::core_at(image, n);
-            let node = Node {
+            let core = netlist.core(n);
+            state.nodes[n as usize] = Node {
                 value: core.parameter,
                 firings: 0,
             };
-            let at = n as usize;
-            state.nodes[at] = node;
         }
         for c in 0..channels {
-            let at = c as usize;
-            state.pending[at] = 1;
+            state.pending[c as usize] = 1;
         }
         state
     }
 
-    // An image's fresh state: 0 and the state, or one of the judge's numbers and zeros.
-    pub fn fresh(image: &[u8]) -> Fresh
-        ensures { FreshDone image.now result }
+    // An image's fresh state; if the judge refuses the image, a state of zeros is handed back.
+    pub fn fresh(image: &[u8]) -> Result<State, Refused>
+        ensures { FreshDone image.now (told result) }
     {
-        let refusal = netlist::judge(image);
-        if refusal != 0 {
-            return Fresh {
-                number: refusal,
+        match Netlist::judged(image) {
+            Ok(netlist) => Ok(State::started(netlist)),
+            Err(refusal) => Err(Refused {
+                refusal,
                 state: State::zeros(),
-            };
-        }
-        Fresh {
-            number: 0,
-            state: State::started(image),
+            }),
         }
     }
 }

@@ -5,9 +5,10 @@ mod initial;
 mod passes;
 
 ghost use Rattle.std.specs.Prelude.{◌≡◌};
-ghost use Rattle.netlist.specs.Accepted.{Accepted};
 ghost use Rattle.state.specs.Fits.{fits};
 
+use netlist::Netlist;
+use refusal::Refusal;
 use relay::Station;
 use shell::Queue;
 
@@ -19,7 +20,8 @@ pub struct Node {
 }
 
 // The state of a netlist between two cycles. Station j of channel c, counted from 0, stands at
-// place 8 * c + j. A place that nothing uses is 0.
+// place 8 * c + j. A place that nothing uses is 0. Marks, stations and queues stand in arrays of their
+// own, and a mark in a byte, as the C interface lays a state out.
 #[derive(Clone, Copy)]
 pub struct State {
     pub cycles: u32,
@@ -29,20 +31,21 @@ pub struct State {
     pub queues: [Queue; 96],
 }
 
-// What a call for a fresh state answers.
+// What a refused call hands back: why it was refused, and a state, the one that it was handed or zeros.
 #[derive(Clone, Copy)]
-pub struct Fresh {
-    pub number: u8,
+pub struct Refused {
+    pub refusal: Refusal,
     pub state: State,
 }
 
-// Whether a state fits an accepted image.
-pub fn fits(image: &[u8], state: State) -> bool
-    requires { Accepted image.now }
-    ensures { result ≡ fits image.now state }
-{
-    let nodes = passes::nodes_fit(image, state);
-    let channels = passes::channels_fit(image, state);
-    let unused = passes::channels_clear(image, state);
-    (((state.cycles <= State::CYCLES) & nodes) & channels) & unused
+impl State {
+    // Whether a state fits an accepted image.
+    pub fn fits(&self, netlist: Netlist) -> bool
+        ensures { result ≡ fits netlist.entry.image.now self.now }
+    {
+        let nodes = passes::nodes_fit(netlist, self);
+        let channels = passes::channels_fit(netlist, self);
+        let unused = passes::channels_clear(netlist, self);
+        (((self.cycles <= State::CYCLES) & nodes) & channels) & unused
+    }
 }

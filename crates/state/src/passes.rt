@@ -1,9 +1,9 @@
 // The passes of number 21, each over all nodes or all channels.
 ghost use Rattle.std.specs.Prelude.{◌≡◌, ◌+◌, eqb};
-ghost use Rattle.netlist.specs.Accepted.{Accepted};
 ghost use Rattle.state.specs.FitsPasses.{node_fits, clear_station, clear_queue, nodes_fit, channels_fit, channels_clear};
 
 use crate::{Node, State};
+use netlist::Netlist;
 use relay::{Row, Station};
 use shell::Queue;
 
@@ -35,10 +35,10 @@ fn clear_queue(queue: Queue, there: bool) -> bool
 }
 
 // The nodes: "firings are at most the cycle count", and places that no node uses are 0.
-pub(crate) fn nodes_fit(image: &[u8], state: State) -> bool
-    ensures { result ≡ nodes_fit image.now state }
+pub(crate) fn nodes_fit(netlist: Netlist, state: &State) -> bool
+    ensures { result ≡ nodes_fit netlist.entry.image.now state.now }
 {
-    let nodes = netlist::nodes(image);
+    let nodes = netlist.nodes();
     let cycles = state.cycles;
     let mut fit = true;
     for n in 0..State::NODES {
@@ -58,14 +58,13 @@ fn balanced(mark: u8, held: u16, waiting: u8, from: u32, to: u32) -> bool
 
 // The channels: "pending marks are 0 or 1; station and queue counts are within their depths", and
 // each channel is balanced.
-pub(crate) fn channels_fit(image: &[u8], state: State) -> bool
-    requires { Accepted image.now }
-    ensures { result ≡ channels_fit image.now state }
+pub(crate) fn channels_fit(netlist: Netlist, state: &State) -> bool
+    ensures { result ≡ channels_fit netlist.entry.image.now state.now }
 {
-    let channels = netlist::channels(image);
+    let channels = netlist.channels();
     let mut fit = true;
     for c in 0..channels {
-        let channel = netlist::channel_at(image, c);
+        let channel = netlist.channel(c);
         let at = 8 * c as usize;
         let mut row = true;
         let mut held: u16 = 0;
@@ -85,14 +84,14 @@ pub(crate) fn channels_fit(image: &[u8], state: State) -> bool
 }
 
 // Places that no channel, no station of the image and no held token uses are 0.
-pub(crate) fn channels_clear(image: &[u8], state: State) -> bool
-    ensures { result ≡ channels_clear image.now state }
+pub(crate) fn channels_clear(netlist: Netlist, state: &State) -> bool
+    ensures { result ≡ channels_clear netlist.entry.image.now state.now }
 {
-    let channels = netlist::channels(image);
+    let channels = netlist.channels();
     let mut clear = true;
     for c in 0..State::CHANNELS {
         let there = c < channels;
-        let channel = netlist::channel_at(image, c);
+        let channel = netlist.channel(c);
         let at = 8 * c as usize;
         let mut row = true;
         for j in 0..Row::LENGTH {

@@ -1,6 +1,6 @@
 -- Laws of numbers in decimal: all that callers use of the definitions. Assumes nothing.
-use Rattle.std.specs.Prelude.{true, false, [], ◌∷◌, ◌++◌, ◌≡◌, refl, ℕ, zero, suc, ◌+◌, ◌*◌, ◌-◌, ◌^◌, ◌/◌, ◌%◌, ◌<◌, ◌≤◌, ℤ, pos, negsuc, nat_abs, length}
-use Rattle.std.proofs.Common.{true≢false, ⊎_elim, sym, ◌∙◌, pow-suc, add-suc, div-lt_iff_lt-mul, not-suc-le-zero, arith, lt-ltb, le-ltb, length-append}
+use Rattle.std.specs.Prelude.{true, false, [], ◌∷◌, ◌++◌, ◌≡◌, refl, ℕ, zero, suc, ◌+◌, ◌*◌, ◌-◌, ◌^◌, ◌/◌, ◌%◌, ◌<◌, ◌≤◌, ℤ, pos, negsuc, nat_abs, length, Option, None, Some, IfNone, IfSome, unwrap_or}
+use Rattle.std.proofs.Common.{true≢false, ⊎_elim, sym, ◌∙◌, pow-suc, add-suc, add-one, div-lt_iff_lt-mul, not-suc-le-zero, arith, lt-ltb, le-ltb, length-append}
 use Prim.Native.Char.{code}
 use Rattle.std.proofs.Math.Nat.{one-le-pow}
 use Rattle.std.specs.Int.Signed.{lt_z, mag}
@@ -81,6 +81,16 @@ digits_decimal (suc (suc k)) n h =
     let rest : IsDigitCount 10 1 (n / 10) (suc k) = (omega arith, tenth n k h.1, λ l. rw (one_less k) (omega arith)) in
     rw (decimal_step n (omega arith), digits_decimal (suc k) (n / 10) rest, glyph_digit n)
 
+-- so many digits a number has
+pub decimal_long : (k n : ℕ) → IsDigitCount 10 1 n k → length (decimal n) ≡ k
+decimal_long zero n h = absurd (not-suc-le-zero h.0)
+decimal_long (suc zero) n h = length_small n h.1
+decimal_long (suc (suc k)) n h =
+    let least : 10 ^ k * 10 ≤ n = rw (one_less (suc k), pow-suc 10 k) at (h.2 (omega arith)) in
+    let some = one-le-pow k 10 (omega arith) in
+    let rest : IsDigitCount 10 1 (n / 10) (suc k) = (omega arith, tenth n k h.1, λ l. rw (one_less k) (omega arith)) in
+    length-step n (omega arith) ∙ rw (decimal_long (suc k) (n / 10) rest) (add-one (suc k))
+
 -- ---- signed values
 pub signed_minus : (z : ℤ) → lt_z z (pos 0) ≡ true → signed_text z ≡ code "-" ∷ decimal (nat_abs z)
 unfolding signed_text
@@ -97,3 +107,13 @@ pub signed_short : (z : ℤ) → mag z < 2 ^ 31 → length (signed_text z) ≤ 1
 unfolding signed_text
 signed_short (pos n) h = let e = decimal_short 9 n (omega arith) in omega arith
 signed_short (negsuc n) h = let e = decimal_short 9 (suc n) (omega arith) in omega arith
+
+-- and by the logarithm, which 0 has not
+pub decimal_log :
+    (log : Option ℕ) (n : ℕ) {k : ℕ}
+    → IfNone log (n ≡ 0) → IfSome log (λ j. 10 ^ j ≤ n) → IfSome log (λ j. n < 10 * 10 ^ j) → k ≡ unwrap_or log 0 → k + 1 ≡ length (decimal n)
+decimal_log None n zero_is least above e = let z : n ≡ 0 = zero_is in rw (e, z) (sym (length_small 0 (omega arith)))
+decimal_log (Some j) n zero_is least above e =
+    let a : n < 10 ^ suc j = rw (pow-suc 10 j) (omega (arith, above)) in
+    let l : 1 < suc j → 10 ^ (suc j - 1) ≤ n = λ q. rw (one_less j) least in
+    rw e (sym (rw (add-one j) (decimal_long (suc j) n (omega arith, a, l))))

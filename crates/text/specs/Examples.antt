@@ -1,7 +1,8 @@
 -- The definitions, computed: numbers, lines, a whole trace, and what a writer leaves in a slice that is too short, just long enough and longer.
 use mathlib.Core.List.{[], ◌∷◌, ◌++◌, flat_map}
-use Rattle.std.specs.Prelude.{◌≡◌, refl, pos, negsuc}
+use Rattle.std.specs.Prelude.{◌≡◌, refl, pos, negsuc, Ok, Err}
 use Rattle.laws.specs.Table.{table}
+use Rattle.refusal.specs.declared.Refusal.TheVariants.{Room}
 use Rattle.relay.specs.Examples.{t, t-, r, i, s}
 use Rattle.text.specs.Ascii.{ascii}
 use Rattle.text.specs.Decimal.{places, decimal, signed_text}
@@ -53,17 +54,17 @@ unfolding trace_text header lines_text line_text closing_text word_text state_te
 traces = (refl, refl)
 
 -- ---- a text of three bytes, written to slices of two, three and five
-short : (written_answer (ascii "abc") (1 ∷ 2 ∷ []) ≡ record { number = 13; length = 0 }) × (written_over (ascii "abc") (1 ∷ 2 ∷ []) ≡ 1 ∷ 2 ∷ [])
+short : (written_answer (ascii "abc") (1 ∷ 2 ∷ []) ≡ Err Room) × (written_over (ascii "abc") (1 ∷ 2 ∷ []) ≡ 1 ∷ 2 ∷ [])
 unfolding written_answer written_over ascii
 short = (refl, refl)
 
 exact :
-    (written_answer (ascii "abc") (1 ∷ 2 ∷ 3 ∷ []) ≡ record { number = 0; length = 3 }) × (written_over (ascii "abc") (1 ∷ 2 ∷ 3 ∷ []) ≡ ascii "abc")
+    (written_answer (ascii "abc") (1 ∷ 2 ∷ 3 ∷ []) ≡ Ok 3) × (written_over (ascii "abc") (1 ∷ 2 ∷ 3 ∷ []) ≡ ascii "abc")
 unfolding written_answer written_over ascii
 exact = (refl, refl)
 
 longer :
-    (written_answer (ascii "abc") (1 ∷ 2 ∷ 3 ∷ 4 ∷ 5 ∷ []) ≡ record { number = 0; length = 3 }) ×
+    (written_answer (ascii "abc") (1 ∷ 2 ∷ 3 ∷ 4 ∷ 5 ∷ []) ≡ Ok 3) ×
     (written_over (ascii "abc") (1 ∷ 2 ∷ 3 ∷ 4 ∷ 5 ∷ []) ≡ ascii "abc" ++ (4 ∷ 5 ∷ []))
 unfolding written_answer written_over ascii
 longer = (refl, refl)

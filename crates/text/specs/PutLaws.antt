@@ -1,8 +1,11 @@
 -- Texts stored one after another. Assumes nothing.
-use Rattle.std.specs.Prelude.{List, [], ◌∷◌, ◌++◌, ◌≡◌, refl, ℕ, suc, ◌+◌, ◌<◌, ◌≤◌, length, set, take, drop, get_or}
-use Rattle.std.proofs.Common.{ap, ◌∙◌, zero-add, add-zero, add-suc, suc-add, add_assoc, add-one, length-append, take-suc}
+use Rattle.std.specs.Prelude.{List, [], ◌∷◌, ◌++◌, ◌≡◌, refl, ℕ, suc, ◌+◌, ◌-◌, ◌≤◌, length, set, take, drop}
+use Rattle.std.proofs.Common.{sym, ap, ◌∙◌, zero-add, add-zero, add-suc, suc-add, add_assoc, add-one, length-append}
 use Rattle.std.proofs.lemmas.List.Edits.{sets, sets-eq}
-use Rattle.std.proofs.Math.Seq.{length-sets, take-length}
+use Rattle.std.proofs.Math.Seq.{length-sets, take-length, paste}
+use borrow.Rule.Slice.PartMut.{put_mid}
+use Rattle.std.proofs.lemmas.Slice.{put_mid-paste}
+use native.Mathlib.Omega.{arith}
 use Rattle.text.specs.Put.{Put}
 
 -- one text after another is one text
@@ -33,14 +36,18 @@ put_long {text} {old} {new} {at} p = ap length p.bytes ∙ length-sets old at te
 pub put_front : {text old new : List ℕ} {end : ℕ} → length text ≤ length old → Put text 0 old new end → new ≡ text ++ drop (length text) old
 put_front {text} {old} h p = p.bytes ∙ sets-eq text old 0 (rw zero-add h) ∙ rw zero-add
 
--- one byte more of a text
-pub put_next :
-    (text : List ℕ) {at j : ℕ} {old new : List ℕ} → j < length text → Put (take j text) at old new (at + j)
-    → Put (take (j + 1) text) at old (set new (at + j) (get_or text j 0)) (at + (j + 1))
-put_next text {at} {j} {old} {new} h p =
-    let q = put-after p (put_one (get_or text j 0) (at + j) new) in
-    rw (add-one j, take-suc text j 0 h, ← add-one j, ← add_assoc at j 1) q
+-- a text that is copied to a part of the slice
+pub put_part :
+    (text : List ℕ) {old now : List ℕ} (at : ℕ) → at + length text ≤ length old → now ≡ text
+    → Put text at old (put_mid at (at + length text - at) old now) (at + length text)
+put_part text {old} {now} at h e =
+    let k : at + length text - at ≡ length text = omega arith in
+    let part : paste old at text (length text) ≡ take at old ++ text ++ drop (at + length text) old =
+    ap (λ bytes. take at old ++ bytes ++ drop (at + length text) old) (take-length text) in
+    record {
+      bytes = put_mid-paste at (at + length text - at) old now text (length text) e (sym k) refl ∙ part ∙ rw (sets-eq text old at h);
+      next = refl;
+    }
 
--- all bytes of a text
-pub put_all : (text : List ℕ) {at j : ℕ} {old new : List ℕ} → j ≡ length text → Put (take j text) at old new (at + j) → Put text at old new (at + j)
-put_all text e p = record { bytes = p.bytes ∙ rw (e, take-length); next = rw e }
+-- what stores a text part by part
+pub ruleset put_steps = (put_one, put_two, put-after, put_long)

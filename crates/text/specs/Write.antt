@@ -1,19 +1,21 @@
--- What a writer that is lent a slice answers, and what the slice holds after it: the text from its first place on and all else as it was; or 13 and
--- nothing written, where it is "shorter than the result".
-use Rattle.std.specs.Prelude.{List, ◌++◌, ◌≡◌, ℕ, ltb, length, take, drop}
+-- What a writer that is lent a slice answers, and what the slice holds after it: the text from its first place on and all else as it was; or a refusal
+-- and nothing written, where it is "shorter than the result".
+use Rattle.std.specs.Prelude.{List, ◌++◌, ◌≡◌, ℕ, ltb, length, take, drop, Result, Ok, Err}
 use Rattle.io.specs.Counts.{IsPrefixLen}
 use Rattle.laws.specs.Choice.{◌if◌else◌}
-use Rattle.text.specs.declared.Written.{Written}
+use Rattle.refusal.specs.declared.Refusal.{Refusal}
+use Rattle.refusal.specs.declared.Refusal.TheVariants.{Room}
 
 module _ (text out : List ℕ) where
-  unfoldable pub written_answer : Written
-  written_answer = record { number = 13; length = 0 } if ltb (length out) (length text) else record { number = 0; length = length text }
+  -- how long the text is
+  unfoldable pub written_answer : Result ℕ Refusal
+  written_answer = Err Room if ltb (length out) (length text) else Ok (length text)
 
   unfoldable pub written_over : List ℕ
   written_over = out if ltb (length out) (length text) else text ++ drop (length text) out
 
 -- a writer of the text that was lent a slice that held `out` and holds `left` after it: its contract ensures this record
-pub record WriteDone (text out : List ℕ) (answer : Written) (left : List ℕ) : Type 0 where
+pub record WriteDone (text out : List ℕ) (answer : Result ℕ Refusal) (left : List ℕ) : Type 0 where
   pub answered : answer ≡ written_answer text out
   pub over : left ≡ written_over text out
 

@@ -10,14 +10,13 @@ use Rattle.laws.specs.TestsLaws.{ltb_leb}
 use Rattle.netlist.specs.Image.{nodes, channels}
 use Rattle.netlist.specs.Accepted.{Accepted}
 use Rattle.netlist.specs.AcceptedLaws.{accepts}
-use Rattle.engine.specs.declared.Ran.{Ran}
 use Rattle.state.specs.declared.State.{State}
-use Rattle.engine.specs.declared.Stepped.{Stepped}
+use Rattle.state.specs.Told.{Told}
 use Rattle.cycle.specs.Cycle.{state_after, letters_of, values_of, after}
 use Rattle.cycle.specs.CycleLaws.{cycles-next}
 use Rattle.state.specs.Fitting.{Fitting}
 use Rattle.state.specs.FitsLaws.{fits-fitting}
-use Rattle.engine.specs.Answer.{sets_above, step_number, step_of, step_answer, letters_written, values_written, step_more, ran_from, run_answer}
+use Rattle.engine.specs.Answer.{sets_above, step_number, step_of, step_answer, letters_written, values_written, RunTold, step_more, ran_from, run_answer}
 use Rattle.token_rule.specs.Calls.{Step, Run, step, run, Done, goes, roomy, makes, run_cycles}
 
 -- a count that fits is 1,000,000 where it is not below
@@ -73,25 +72,25 @@ module _ (img : List ℕ) (a : Accepted img) (s : State) (ok : Fitting img s) (d
       let m = makes img d x in
       let zero : eqb (step_of img s x.word x.letters x.values) 0 ≡ m =
       ap (λ k. eqb k 0) (step-number x) ∙ chosen_zero m (not (ltb d 1000000)) (sets_above (nodes img) x.word) in
-      let number = ap (λ (r : Stepped). r.number) done.answered in
+      let number = ap (λ (r : Told). r.number) done.answered in
       record {
         numbered = number ∙ step-number x;
         made = ap (λ k. eqb k 0) number ∙ zero;
-        stated = ap (λ (r : Stepped). r.state) done.answered ∙ rw zero;
+        stated = ap (λ (r : Told). r.state) done.answered ∙ rw zero;
         lettered = done.lettered ∙ rw zero;
         valued = done.valued ∙ rw zero;
       }
 
 -- ---- a run
 -- what a run answered that was handed the state s after d cycles, and made cycles with the words `made`
-pub record RanWell (img : List ℕ) (s : State) (d : ℕ) (words made : List ℕ) (r : Ran) : Type 0 where
+pub record RanWell (img : List ℕ) (s : State) (d : ℕ) (words made : List ℕ) (r : RunTold) : Type 0 where
   pub stepped : r.steps ≡ length made
   pub stated : r.state ≡ after img s made
   pub numbered : r.number ≡ (0 if eqb r.steps (length words) else 22 if not (ltb (d + r.steps) 1000000) else 12)
 
 -- the first word ends the run, or makes a cycle and the run goes on
 ran_turn :
-    (img : List ℕ) (s : State) (d w : ℕ) (words made : List ℕ) (r : Ran) (p q : Bool) → ltb d 1000000 ≡ p
+    (img : List ℕ) (s : State) (d w : ℕ) (words made : List ℕ) (r : RunTold) (p q : Bool) → ltb d 1000000 ≡ p
     → (p ≡ true → RanWell img (state_after img w s) (suc d) words made r)
     → RanWell img s d (w ∷ words) ((w ∷ made) if p && not q else [])
     (record { steps = 0; number = 22; state = s } if not p else record { steps = 0; number = 12; state = s } if q else step_more r)

@@ -8,7 +8,7 @@ use Rattle.netlist.specs.Accepted.{Accepted}
 use Rattle.netlist.specs.AcceptedLaws.{accepted}
 use Rattle.netlist.specs.Judge.{judge}
 use Rattle.strict.specs.Strict.{strict}
-use Rattle.state.specs.declared.Fresh.{Fresh}
+use Rattle.state.specs.Told.{Told}
 use Rattle.state.specs.declared.State.{State}
 use Rattle.state.specs.State.{firings_at}
 use Rattle.state.specs.Fresh.{fresh_state, fresh_answer, FreshDone}
@@ -143,14 +143,14 @@ module _ (img : List ℕ) (a : Accepted img) (calls : List Call) (chain : Chain 
             progress img a s fit.steady n h behind span long awake;
       }
 
-fresh-state : (img : List ℕ) (fresh : Fresh) → judge img ≡ 0 → FreshDone img fresh → fresh.state ≡ fresh_state img
+fresh-state : (img : List ℕ) (fresh : Told) → judge img ≡ 0 → FreshDone img fresh → fresh.state ≡ fresh_state img
 unfolding fresh_answer
-fresh-state img fresh e done = ap (λ (f : Fresh). f.state) done.answered ∙ rw e
+fresh-state img fresh e done = ap (λ (f : Told). f.state) done.answered ∙ rw e
 
 -- the token rule holds of every list of calls that did what their contracts ensure, each handed the state that the call before it returned, and the
 -- first the fresh state of an accepted image
 pub token_rule :
-    (img : List ℕ) (fresh : Fresh) (calls : List Call) → judge img ≡ 0 → FreshDone img fresh → Chain img fresh.state calls
+    (img : List ℕ) (fresh : Told) (calls : List Call) → judge img ≡ 0 → FreshDone img fresh → Chain img fresh.state calls
     → TokenRule img fresh.state calls (cycles_of img 0 calls)
 token_rule img fresh calls e done chain =
     let same = fresh-state img fresh e done in

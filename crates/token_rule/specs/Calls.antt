@@ -3,10 +3,9 @@ use Rattle.std.specs.Prelude.{Bool, not, ◌&&◌, List, [], ◌∷◌, ◌++◌
 use Rattle.laws.specs.Choice.{◌if◌else◌}
 use Rattle.laws.specs.Lists.{one_if}
 use Rattle.netlist.specs.Image.{nodes, channels}
-use Rattle.engine.specs.declared.Ran.{Ran}
 use Rattle.state.specs.declared.State.{State}
-use Rattle.engine.specs.declared.Stepped.{Stepped}
-use Rattle.engine.specs.Answer.{sets_above}
+use Rattle.state.specs.Told.{Told}
+use Rattle.engine.specs.Answer.{sets_above, RunTold}
 use Rattle.engine.specs.Done.{StepDone, RunDone}
 
 -- a step: its word and what the two lent arrays held; what it returned and what they held after it
@@ -14,14 +13,14 @@ pub record Step : Type 0 where
   pub word : ℕ
   pub letters : List ℕ
   pub values : List ℤ
-  pub answer : Stepped
+  pub answer : Told
   pub letters_left : List ℕ
   pub values_left : List ℤ
 
 -- a run: its words; what it returned
 pub record Run : Type 0 where
   pub words : List ℕ
-  pub answer : Ran
+  pub answer : RunTold
 
 -- "Its calls are steps and runs, and all get the same accepted image."
 pub data Call : Type 0 where

@@ -1,24 +1,23 @@
 -- `text::cycle_line` meets its contract. Assumes nothing.
-use mathlib.Core.List.{flat_map}
+use mathlib.Core.Path.{◌≡◌, ap, ◌∙◌}
 use native.Mathlib.Omega.{arith}
+use lib.ListN.{length, take}
 use Rattle.text.specs.Decimal.{decimal}
-use Rattle.text.specs.DecimalLaws.{decimal_short}
-use Rattle.text.specs.Lines.{state_text, line_text, row_of}
-use Rattle.text.specs.WriteLaws.{line_none, line_made}
+use Rattle.text.specs.DecimalLaws.{digits_decimal, decimal_short}
+use Rattle.text.specs.Lines.{line_text}
+use Rattle.text.proofs.cycle_line.Goals.{After-decimal-count}
 use Rattle.text.proofs.cycle_line.Goals as goal
 
-pub returns-then-less_states-eq0-clause-write_done : goal.returns-then-less_states-eq0-clause-write_done
-unfolding line_text
-returns-then-less_states-eq0-clause-write_done c =
-    let a = c.args in
-    line_none (decimal a.cycle) (flat_map state_text (row_of a.letters.now a.values.now)) a.out.now (omega arith)
-
-pub returns-then-less_states-eq0-clause-number_value : goal.returns-then-less_states-eq0-clause-number_value
-returns-then-less_states-eq0-clause-number_value c = λ h. absurd (omega (arith, h, decimal_short 9 c.args.cycle (omega arith)))
+-- the line begins with the cycle's digits
+digits : (c : After-decimal-count) → take c.decimal-count.result c.decimal-count.new.out ≡ decimal c.args.cycle
+digits c = c.decimal-count.ensures.digits ∙ digits_decimal c.decimal-count.result c.args.cycle c.decimal-count.ensures.len
 
 pub returns-clause-write_done : goal.returns-clause-write_done
 unfolding line_text
-returns-clause-write_done c =
+returns-clause-write_done c = rw (digits (goal.at.returns-clause-write_done c).After-decimal-count) at c.line.ensures.write_done
+
+pub returns-clause-number_value : goal.returns-clause-number_value
+returns-clause-number_value c =
     let a = c.args in
-    line_made (decimal a.cycle) (flat_map state_text (row_of a.letters.now a.values.now)) a.out.now (omega arith)
-    c.put_decimal-first.ensures c.put_states-last.ensures
+    let e = ap length (digits (goal.at.returns-clause-number_value c).After-decimal-count) in
+    λ h. c.line.ensures.number_value (omega (arith, h, e, decimal_short 9 a.cycle (omega arith)))

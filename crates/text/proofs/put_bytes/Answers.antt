@@ -1,7 +1,6 @@
 -- `text::put_bytes` meets its contract. Assumes nothing.
-use native.Mathlib.Omega.{arith}
-use Rattle.text.specs.PutLaws.{put_next}
+use Rattle.text.specs.PutLaws.{put_part}
 use Rattle.text.proofs.put_bytes.Goals as goal
 
-pub loop-j-preserved : goal.loop-j-preserved
-loop-j-preserved c = (omega arith, put_next c.args.text.now (omega arith) c.loop-j.invariant.1)
+pub returns : goal.returns
+returns c = put_part c.args.text.now c.args.at c.requires c.copy_from_slice.ensures.after

@@ -1,16 +1,18 @@
 -- `netlist::passes::contents` meets its contract: at each return the tests for the numbers before it have failed. Assumes nothing.
-use mathlib.Core.Bool.{false}
-use mathlib.Core.Path.{◌≡◌, sym, ap, ◌∙◌}
-use Prim.Native.Nat.{◌≤◌}
+use Rattle.std.proofs.Common.{rules, Bool, true, false, List, ℕ, arith, ◌≡◌, ◌≤◌, ap, sym, ◌∙◌}
 use Rattle.laws.specs.Below.{any_below}
 use Rattle.laws.specs.Choice.{◌if◌else◌}
+use Rattle.laws.specs.ChoiceLaws.{past}
+use Rattle.refusal.specs.declared.Refusal.{Refusal}
+use Rattle.refusal.specs.Number.{number}
+use Rattle.refusal.specs.NumberLaws.{number_positive}
 use Rattle.netlist.specs.Image.{nodes, channels}
 use Rattle.netlist.specs.Judge.{judge, bad_wire, bad_port, fed_twice, not_fed}
 use Rattle.netlist.specs.JudgeLaws.{sizes_ok}
-use Rattle.netlist.specs.Passes.{found_below, depth_number}
+use Rattle.netlist.specs.Passes.{found_below, depth_number, marks_below, twice_below, misses}
 use Rattle.netlist.specs.Ports.{Wired}
 use Rattle.netlist.specs.PassesLaws.{wired, twice_is, misses_is}
-use Rattle.netlist.proofs.passes.contents.Goals.{After-feed_ports-fed, After-scan_ports, Else-found-2}
+use Rattle.netlist.proofs.passes.contents.Goals.{Else-found-2}
 use Rattle.netlist.proofs.passes.contents.Goals as goal
 
 few : (c : Else-found-2) → nodes c.args.image.now ≤ 64
@@ -35,18 +37,13 @@ left c =
 places : (c : Else-found-2) → Wired c.args.image.now (channels c.args.image.now)
 places c = wired c.args.image.now (channels c.args.image.now) (few c) (no_5 c) (no_6 c)
 
--- the tests for 7 and 8 are the definition's
-is-7 : (c : After-feed_ports-fed) →
-    let i = c.args.image.now in
-    Wired i (channels i) → c.feed_ports-fed.result.twice ≡ any_below (fed_twice i) (channels i)
-is-7 c there =
-    let i = c.args.image.now in
-    ap (λ f. f.twice) c.feed_ports-fed.ensures ∙ twice_is i (channels i) there
+-- the test for 7 is the definition's, and so is that for 8
+is-7 : (c : Else-found-2) → twice_below c.args.image.now (channels c.args.image.now) ≡ any_below (fed_twice c.args.image.now) (channels c.args.image.now)
+is-7 c = twice_is c.args.image.now _ (places c)
 
-is-8 : (c : After-scan_ports) →
-    let i = c.args.image.now in
-    nodes i ≤ 64 → Wired i (channels i) → c.scan_ports.result ≡ any_below (not_fed i) (nodes i)
-is-8 c small there = (rw c.feed_ports-fed.ensures at c.scan_ports.ensures) ∙ misses_is c.args.image.now small there
+is-8 : (c : Else-found-2) (ports : List Bool) → ports ≡ marks_below c.args.image.now (channels c.args.image.now)
+    → any_below (misses c.args.image.now ports) (nodes c.args.image.now) ≡ any_below (not_fed c.args.image.now) (nodes c.args.image.now)
+is-8 c ports e = rw e (misses_is c.args.image.now (few c) (places c))
 
 pub returns-then-scan_kinds : goal.returns-then-scan_kinds
 unfolding judge
@@ -68,26 +65,30 @@ returns-then-found-2 c =
     let yes-6 = sym (ap (λ f. f.port) c.scan_channels-found.ensures) ∙ c.if-found-2.true in
     rw (c.requires.no_1, c.requires.no_2, c.requires.no_3, no-4, no-5, yes-6)
 
-pub feed_ports-fed-requires : goal.feed_ports-fed-requires
-feed_ports-fed-requires c = places (goal.at.feed_ports-fed-requires c).Else-found-2
+pub feed_ports-requires : goal.feed_ports-requires
+feed_ports-requires c = places (goal.at.feed_ports-requires c).Else-found-2
 
-pub returns-then-fed : goal.returns-then-fed
-returns-then-fed c =
-    let a = (goal.at.returns-then-fed c).Else-found-2 in
-    let seven = is-7 (goal.at.returns-then-fed c).After-feed_ports-fed (places a) in
-    rw (left a, sym seven ∙ c.if-fed.true)
+-- a refusal's number is the chain's, where it is that of the first test
+first : (r : Refusal) (test : Bool) (later : ℕ) → number r ≡ (7 if test else 0) → (7 if test else later) ≡ number r
+first r true later e = sym e
+first r false later e = let h = number_positive r in absurd (omega arith)
+
+pub returns-in_err-ports : goal.returns-in_err-ports
+returns-in_err-ports c =
+    let a = (goal.at.returns-in_err-ports c).Else-found-2 in
+    let r = c.in_err-ports.field-0.0 in
+    let refused : judge c.args.image.now ≡ number r = rw (left a, sym (is-7 a)) (first r _ _ c.in_err-ports.ensures.number) in
+    rw refused (search rules)
 
 pub returns-then-scan_ports : goal.returns-then-scan_ports
 returns-then-scan_ports c =
     let a = (goal.at.returns-then-scan_ports c).Else-found-2 in
-    let seven = is-7 (goal.at.returns-then-scan_ports c).After-feed_ports-fed (places a) in
-    let eight = is-8 (goal.at.returns-then-scan_ports c).After-scan_ports (few a) (places a) in
-    rw (left a, sym seven ∙ c.if-fed.false, sym eight ∙ c.if-scan_ports.true)
+    let seven = (past 6 0 _ (sym c.in_ok-ports.ensures.number)).0 in
+    rw (left a, sym (is-7 a) ∙ seven, sym (is-8 a _ c.in_ok-ports.ensures.marks) ∙ sym c.scan_ports.ensures ∙ c.if-scan_ports.true)
 
 pub returns : goal.returns
 returns c =
     let a = (goal.at.returns c).Else-found-2 in
-    let seven = is-7 (goal.at.returns c).After-feed_ports-fed (places a) in
-    let eight = is-8 (goal.at.returns c).After-scan_ports (few a) (places a) in
-    rw (left a, sym seven ∙ c.if-fed.false, sym eight ∙ c.if-scan_ports.false)
-    (rw c.scan_channels-found.ensures at c.depth_number.ensures)
+    let seven = (past 6 0 _ (sym c.in_ok-ports.ensures.number)).0 in
+    rw (left a, sym (is-7 a) ∙ seven, sym (is-8 a _ c.in_ok-ports.ensures.marks) ∙ sym c.scan_ports.ensures ∙ c.if-scan_ports.false)
+    (rw c.scan_channels-found.ensures at c.judge_depths.ensures)

@@ -17,10 +17,10 @@ bounds-ports-at c =
 
 pub loop-p-preserved : goal.loop-p-preserved
 unfolding any_below
-loop-p-preserved c = (omega arith, rw (add-one, c.wide.ensures, c.loop-p.invariant.1))
+loop-p-preserved c = (omega arith, rw (add-one, c.loop-p.invariant.1))
 
 pub returns : goal.returns
 unfolding misses
 returns c =
     let e : c.loop-p.p ≡ c.inputs-k.result = omega arith in
-    rw (c.loop-p.invariant.1, e, c.inputs-k.ensures, c.kind_at.ensures, c.wide-at.ensures)
+    rw (c.loop-p.invariant.1, e, c.inputs-k.ensures, c.kind_at.ensures)

@@ -1,11 +1,7 @@
 use mathlib.Core.Path.{◌≡◌}
-use Prim.Native.Nat.{◌≤◌, ◌-◌}
 use Rattle.laws.specs.Table.{table_over}
 use Rattle.relay.specs.RowCycle.{station_after}
 use Rattle.relay.proofs.Row.cycle.Given as goal
 
 abbrev pub invariant-loop-j : goal.invariant-loop-j
-invariant-loop-j l = (l.j ≤ l.n) × (l.row ≡ record { stations = table_over (station_after l.self l.n l.link l.stop) l.j l.self.stations })
-
-abbrev pub decreases-loop-j : goal.decreases-loop-j
-decreases-loop-j l = l.n - l.j
+invariant-loop-j l = l.row ≡ record { stations = table_over (station_after l.self l.n l.link l.stop) l.j l.self.stations }

@@ -10,18 +10,19 @@ use mir.Facts.{to_z-of_z}
 use Rattle.netlist.specs.declared.Core.{Core}
 use Rattle.netlist.specs.Image.{nodes, channels}
 use Rattle.netlist.specs.Readers.{core_at}
+use Rattle.netlist.specs.AcceptedLaws.{accepted}
 use Rattle.state.specs.FreshLaws.{filled_none, filled_node, filled_mark, filled_all}
 use Rattle.state.proofs.State.started.Goals as goal
 
 pub loop-n-init : goal.loop-n-init
-loop-n-init c = (omega arith, c.zeros-state.ensures ∙ filled_none c.args.image.now)
+loop-n-init c = (omega arith, c.zeros-state.ensures ∙ filled_none c.args.netlist.image.now)
 
 pub loop-n-preserved : goal.loop-n-preserved
 unfolding core_at
 loop-n-preserved c =
-    let img = c.args.image.now in
-    let there : c.loop-n.n < 64 = omega (arith, c.nodes-nodes.ensures, c.requires.few_nodes) in
-    let r = c.core_at-core in
+    let img = c.args.netlist.image.now in
+    let there : c.loop-n.n < 64 = omega (arith, c.nodes-nodes.ensures.few) in
+    let r = c.core-core in
     let f : SFits w32 r.result.parameter = search rules in (
       omega arith,
       rw (to_z-of_z f, add-one)
@@ -30,11 +31,12 @@ loop-n-preserved c =
 
 pub loop-c-preserved : goal.loop-c-preserved
 loop-c-preserved c =
-    let img = c.args.image.now in
-    let there : c.loop-c.c < 96 = omega (arith, c.channels-channels.ensures, c.requires.few_channels) in
+    let img = c.args.netlist.image.now in
+    let there : c.loop-c.c < 96 = omega (arith, c.channels-channels.ensures.few) in
     (omega arith, rw add-one (filled_mark img (nodes img) c.loop-c.c there c.loop-c.state c.loop-c.invariant.1))
 
 pub returns : goal.returns
 returns c =
-    let e : c.loop-c.c ≡ channels c.args.image.now = omega (arith, c.channels-channels.ensures) in
-    (rw e at c.loop-c.invariant.1) ∙ filled_all c.args.image.now c.requires
+    let img = c.args.netlist.image.now in
+    let e : c.loop-c.c ≡ channels img = omega (arith, c.channels-channels.ensures.value) in
+    (rw e at c.loop-c.invariant.1) ∙ filled_all img (accepted img c.args.netlist.accepted)

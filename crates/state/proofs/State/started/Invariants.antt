@@ -5,7 +5,7 @@ use Rattle.state.specs.FreshLaws.{filled}
 use Rattle.state.proofs.State.started.Given as goal
 
 abbrev pub invariant-loop-n : goal.invariant-loop-n
-invariant-loop-n l = (l.n ≤ l.nodes) × (l.state ≡ filled l.image l.n 0)
+invariant-loop-n l = (l.n ≤ l.nodes) × (l.state ≡ filled l.netlist.image.now l.n 0)
 
 abbrev pub invariant-loop-c : goal.invariant-loop-c
-invariant-loop-c l = (l.c ≤ l.channels) × (l.state ≡ filled l.image (nodes l.image) l.c)
+invariant-loop-c l = (l.c ≤ l.channels) × (l.state ≡ filled l.netlist.image.now (nodes l.netlist.image.now) l.c)

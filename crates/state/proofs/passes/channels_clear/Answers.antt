@@ -21,13 +21,13 @@ loop-j-init c = (omega arith, refl)
 pub loop-j-preserved : goal.loop-j-preserved
 unfolding all_below station_at station_clear clear_station channel_at
 loop-j-preserved c =
-    (omega arith, rw (add-one, c.clear_station-row.ensures, c.loop-j.invariant.1, c.channel_at-channel.ensures, c.channels-channels.ensures))
+    (omega arith, rw (add-one, c.clear_station-row.ensures, c.loop-j.invariant.1, c.channel-channel.ensures.value, c.channels-channels.ensures.value))
 
 pub loop-c-preserved : goal.loop-c-preserved
 unfolding all_below mark_at queue_at mark_clear queue_clear clear_queue channel_clear
 loop-c-preserved c =
     let e : c.loop-j.j ≡ 8 = omega arith in
-    (omega arith, rw (add-one, c.clear_queue.ensures, c.loop-j.invariant.1, e, c.loop-c.invariant.1, c.channels-channels.ensures))
+    (omega arith, rw (add-one, c.clear_queue.ensures, c.loop-j.invariant.1, e, c.loop-c.invariant.1, c.channels-channels.ensures.value))
 
 pub returns : goal.returns
 unfolding channels_clear

@@ -9,36 +9,28 @@ use mir.Syntax.{w8}
 use mir.Val.{Fits}
 use Rattle.laws.specs.Below.{all_below, sum_below}
 use Rattle.netlist.specs.Image.{channels}
-use Rattle.netlist.specs.Readers.{channel_at}
+use Rattle.netlist.specs.Readers.{channel_at, Placed}
 use Rattle.relay.specs.declared.Station.{Station}
 use Rattle.state.specs.State.{node_at, mark_at, station_at, queue_at}
 use Rattle.state.specs.Fits.{stations_fit, balanced}
 use Rattle.state.specs.FitsPasses.{channel_fits, channels_fit}
-use Rattle.state.proofs.passes.channels_fit.Goals.{After-channel_at-channel, After-struct_known-in-loop-j-1, In-loop-c}
+use Rattle.state.proofs.passes.channels_fit.Goals.{After-channel-channel, After-struct_known-in-loop-j-1, In-loop-c}
 use Rattle.state.proofs.passes.channels_fit.Goals as goal
 
--- the channel of a turn: one of 96, with eight stations at most, between nodes that are there
-there : (c : In-loop-c) → c.loop-c.c < channels c.args.image.now
-there c = omega (arith, c.channels-channels.ensures)
+-- the channel of a turn: one of 96, in its places
+there : (c : In-loop-c) → c.loop-c.c < channels c.args.netlist.image.now
+there c = omega (arith, c.channels-channels.ensures.value)
 
 inside : (c : In-loop-c) → c.loop-c.c < 96
-inside c = omega (arith, there c, c.requires.few_channels)
+inside c = omega (arith, c.channels-channels.ensures.few)
 
-short : (c : After-channel_at-channel) → c.channel_at-channel.result.stations ≤ 8
-unfolding channel_at
-short c =
-    rw c.channel_at-channel.ensures (c.requires.rows c.loop-c.c (omega (arith, c.channels-channels.ensures)))
-
-ends : (c : After-channel_at-channel) → (c.channel_at-channel.result.from < 64) × (c.channel_at-channel.result.to < 64)
-unfolding channel_at
-ends c =
-    let w = c.requires.wires c.loop-c.c (omega (arith, c.channels-channels.ensures)) in
-    rw c.channel_at-channel.ensures (omega (arith, w.0, c.requires.few_nodes), omega (arith, w.1, c.requires.few_nodes))
+placed : (c : After-channel-channel) → Placed c.channel-channel.result
+placed c = c.channel-channel.ensures.placed (omega (arith, c.channels-channels.ensures.value))
 
 -- the station of a turn; its count is a byte
 abbrev seen : After-struct_known-in-loop-j-1 → Station
 seen c =
-    station_at c.args.state c.loop-c.c c.loop-j.j
+    station_at c.args.state.now c.loop-c.c c.loop-j.j
 
 count : (c : After-struct_known-in-loop-j-1) → (seen c).count < 2 ^ 8
 unfolding station_at
@@ -53,7 +45,7 @@ unfolding all_below sum_below
 loop-j-init c = (omega arith, refl, refl, omega arith)
 
 pub bounds-state-at : goal.bounds-state-at
-bounds-state-at c = omega (arith, short (goal.at.bounds-state-at c).After-channel_at-channel, inside (goal.at.bounds-state-at c).In-loop-c)
+bounds-state-at c = omega (arith, (placed (goal.at.bounds-state-at c).After-channel-channel).stations, inside (goal.at.bounds-state-at c).In-loop-c)
 
 pub loop-j-preserved : goal.loop-j-preserved
 unfolding all_below sum_below station_at
@@ -65,19 +57,19 @@ loop-j-preserved c = (
 )
 
 pub bounds-state-channel : goal.bounds-state-channel
-bounds-state-channel c = (ends (goal.at.bounds-state-channel c).After-channel_at-channel).0
+bounds-state-channel c = (placed (goal.at.bounds-state-channel c).After-channel-channel).from
 
 pub bounds-state-channel-in-loop-c : goal.bounds-state-channel-in-loop-c
-bounds-state-channel-in-loop-c c = (ends (goal.at.bounds-state-channel-in-loop-c c).After-channel_at-channel).1
+bounds-state-channel-in-loop-c c = (placed (goal.at.bounds-state-channel-in-loop-c c).After-channel-channel).to
 
 pub loop-c-preserved : goal.loop-c-preserved
 unfolding all_below node_at mark_at queue_at channel_at stations_fit balanced channel_fits
 loop-c-preserved c =
-    let e : c.loop-j.j ≡ c.channel_at-channel.result.stations = omega (arith, c.loop-j.invariant.0, c.loop-j-test.false) in
-    (omega arith, rw (add-one, c.balanced.ensures, c.loop-j.invariant.1, c.loop-j.invariant.2, e, c.channel_at-channel.ensures, c.loop-c.invariant.1))
+    let e : c.loop-j.j ≡ c.channel-channel.result.stations = omega (arith, c.loop-j.invariant.0, c.loop-j-test.false) in
+    (omega arith, rw (add-one, c.balanced.ensures, c.loop-j.invariant.1, c.loop-j.invariant.2, e, c.channel-channel.ensures.value, c.loop-c.invariant.1))
 
 pub returns : goal.returns
 unfolding channels_fit
 returns c =
-    let e : c.loop-c.c ≡ channels c.args.image.now = omega (arith, c.channels-channels.ensures) in
+    let e : c.loop-c.c ≡ channels c.args.netlist.image.now = omega (arith, c.channels-channels.ensures.value) in
     rw (c.loop-c.invariant.1, e)

@@ -12,4 +12,4 @@ invariant-loop-j l =
     (l.held ≤ 255 * l.j)
 
 abbrev pub invariant-loop-c : goal.invariant-loop-c
-invariant-loop-c l = (l.c ≤ l.channels) × (l.fit ≡ all_below (channel_fits l.image l.state) l.c)
+invariant-loop-c l = (l.c ≤ l.channels) × (l.fit ≡ all_below (channel_fits l.netlist.image.now l.state) l.c)

@@ -14,7 +14,7 @@ loop-n-init c = (omega arith, refl)
 pub loop-n-preserved : goal.loop-n-preserved
 unfolding all_below node_at
 loop-n-preserved c =
-    (omega arith, rw (add-one, c.node_fits-fit.ensures, c.loop-n.invariant.1, c.nodes-nodes.ensures))
+    (omega arith, rw (add-one, c.node_fits-fit.ensures, c.loop-n.invariant.1, c.nodes-nodes.ensures.value))
 
 pub returns : goal.returns
 unfolding nodes_fit

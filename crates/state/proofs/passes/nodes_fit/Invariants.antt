@@ -9,4 +9,4 @@ use Rattle.state.proofs.passes.nodes_fit.Given as goal
 
 abbrev pub invariant-loop-n : goal.invariant-loop-n
 invariant-loop-n l =
-    (l.n ≤ 64) × (l.fit ≡ all_below (λ k. node_fits (node_at l.state k) (ltb k (nodes l.image)) l.state.cycles) l.n)
+    (l.n ≤ 64) × (l.fit ≡ all_below (λ k. node_fits (node_at l.state k) (ltb k (nodes l.netlist.image.now)) l.state.cycles) l.n)

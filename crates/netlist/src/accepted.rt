@@ -1,0 +1,73 @@
+// An image that the judge accepts, as a type: who holds one need not ask again.
+ghost use Rattle.std.specs.Prelude.{◌≡◌};
+ghost use Rattle.refusal.specs.Number.{number_of};
+ghost use Rattle.netlist.specs.Judge.{judge};
+
+use crate::{Channel, Core};
+use refusal::Refusal;
+
+// An accepted image.
+#[derive(Clone, Copy)]
+pub struct Netlist<'a> {
+    pub image: &'a [u8],
+    ghost accepted: { judge image.now ≡ 0 },
+}
+
+impl<'a> Netlist<'a> {
+    ghost use Rattle.std.specs.Prelude.{◌≤◌, ◌<◌, IfOk};
+    ghost use Rattle.netlist.specs.Accepted.{Accepted};
+    ghost use Rattle.netlist.specs.Image.{nodes, channels};
+    ghost use Rattle.netlist.specs.Readers.{core_at, channel_at, Placed};
+
+    // An image, if the judge accepts it.
+    pub fn judged(image: &'a [u8]) -> Result<Netlist<'a>, Refusal>
+        ensures number { number_of result ≡ judge image.entry.now }
+        ensures same { IfOk result (λ netlist. netlist.image ≡ image.entry) }
+    {
+        crate::judge(image)?;
+        Ok(Netlist { image })
+    }
+
+    // An image that is known to be accepted.
+    #[tactic(auto, using(crate::specs::AcceptedLaws::accepts))]
+    pub fn accepted(image: &'a [u8]) -> Netlist<'a>
+        requires { Accepted image.now }
+        ensures { result.image ≡ image.entry }
+    {
+        Netlist { image }
+    }
+
+    // N.
+    #[tactic(auto, using(crate::specs::AcceptedLaws::nodes_few))]
+    pub fn nodes(self) -> u8
+        ensures value { result ≡ nodes self.entry.image.now }
+        ensures few { result ≤ 64 }
+    {
+        crate::nodes(self.image)
+    }
+
+    // C.
+    #[tactic(auto, using(crate::specs::AcceptedLaws::channels_few))]
+    pub fn channels(self) -> u8
+        ensures value { result ≡ channels self.entry.image.now }
+        ensures few { result ≤ 96 }
+    {
+        crate::channels(self.image)
+    }
+
+    // Node n's fields.
+    pub fn core(self, n: u8) -> Core
+        ensures { result ≡ core_at self.entry.image.now n }
+    {
+        crate::core_at(self.image, n)
+    }
+
+    // Channel c's fields.
+    #[tactic(auto, using(crate::specs::AcceptedLaws::channel_placed))]
+    pub fn channel(self, c: u8) -> Channel
+        ensures value { result ≡ channel_at self.entry.image.now c }
+        ensures placed { c < channels self.entry.image.now → Placed result }
+    {
+        crate::channel_at(self.image, c)
+    }
+}

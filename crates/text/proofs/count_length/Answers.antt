@@ -1,9 +1,0 @@
--- `text::count_length` meets its contract. Assumes nothing.
-use native.Mathlib.Omega.{arith}
-use Rattle.text.specs.DecimalLaws.{decimal_short}
-use Rattle.text.specs.Lines.{count_text}
-use Rattle.text.proofs.count_length.Goals as goal
-
-pub returns : goal.returns
-unfolding count_text
-returns c = let n = c.args.count in omega (arith, c.digits.ensures.0, decimal_short 9 n (omega arith))

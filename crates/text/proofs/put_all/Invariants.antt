@@ -1,0 +1,9 @@
+use mathlib.Core.List.{flat_map}
+use Prim.Native.Nat.{◌≤◌}
+use lib.ListN.{length, take}
+use Rattle.text.specs.Put.{Put}
+use Rattle.text.proofs.put_all.Given as goal
+
+abbrev pub invariant-loop-item : goal.invariant-loop-item
+invariant-loop-item g l =
+    (l.item-index ≤ length l.items) × Put (flat_map g.F.Text.text (take l.item-index l.items)) l.at l.initial.out l.out l.end

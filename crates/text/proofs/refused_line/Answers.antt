@@ -1,8 +1,0 @@
--- `text::refused_line` meets its contract. Assumes nothing.
-use Rattle.text.specs.Ascii.{ascii}
-use Rattle.text.specs.Lines.{refused_text}
-use Rattle.text.proofs.refused_line.Goals as goal
-
-pub returns-clause-write_done : goal.returns-clause-write_done
-unfolding refused_text ascii
-returns-clause-write_done c = c.word_line.ensures.write_done
