@@ -1,6 +1,5 @@
 -- A cycle of what was decoded is a cycle of the strict system. Assumes nothing.
-use Rattle.std.specs.Prelude.{List, ◌++◌, ◌≡◌, ℕ, suc, ◌*◌, ◌/◌, ◌%◌, ◌<◌, ℤ, set, take}
-use Rattle.std.proofs.Math.Path.{refl}
+use Rattle.std.specs.Prelude.{List, ◌≡◌, ℕ, suc, ◌*◌, ◌/◌, ◌%◌, ◌<◌, set, take}
 use Rattle.std.proofs.Common.{⊎_elim, ap, ◌∙◌, arith, get_or-set_same, get_or-set_other}
 use Rattle.laws.specs.Cases.{below_suc}
 use Rattle.std.proofs.Math.Nat.{add-zero}
@@ -10,12 +9,11 @@ use Rattle.laws.specs.Below.{pick_below}
 use Rattle.laws.specs.BelowLaws.{pick_one, pick_map}
 use Rattle.laws.specs.ListsLaws.{get_or-padded, take-padded}
 use Rattle.laws.specs.Table.{table_over}
-use Rattle.laws.specs.TableLaws.{get_d_any, table_same, table_own, over_padded, over_same, padded-table, padded-at}
-use Rattle.netlist.specs.Image.{nodes, channels, kind, parameter, from, feeds}
+use Rattle.laws.specs.TableLaws.{get_d_any, over_padded, over_same}
+use Rattle.netlist.specs.Image.{nodes, channels, kind, from, feeds}
 use Rattle.pearl.specs.declared.Kind.{Kind}
 use Rattle.pearl.specs.declared.Kind.TheVariants.{Count}
 use Rattle.pearl.specs.Kind.{code}
-use Rattle.pearl.specs.Next.{next_value}
 use Rattle.netlist.specs.Accepted.{Accepted}
 use Rattle.netlist.specs.AcceptedLaws.{accepted-wired}
 use Rattle.netlist.specs.Ports.{port_place, ports_below}

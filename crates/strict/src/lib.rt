@@ -1,15 +1,13 @@
 // The strict reference run: the values that the nodes have where no wire is too long for one clock.
 #![tactic(auto)]
 
-ghost use Rattle.std.specs.Prelude.{◌≡◌, ◌<◌, ◌≤◌, length, OnOk};
+ghost use Rattle.std.specs.Prelude.{◌≡◌, ◌<◌, ◌≤◌, length, IfOk, OnOk};
 ghost use Rattle.refusal.specs.Number.{number_of};
 ghost use Rattle.netlist.specs.Image.{nodes, channels};
-ghost use Rattle.netlist.specs.Judge.{judge};
-ghost use Rattle.netlist.specs.Accepted.{Accepted};
-ghost use Rattle.netlist.specs.Ports.{Wired};
 ghost use Rattle.strict.specs.Answer.{strict_number, strict_written};
 ghost use Rattle.strict.specs.Decoded.{NamesPlaces, KindsBelow, feeders_below, port_on, values_at};
 
+use netlist::Netlist;
 use pearl::Kind;
 use refusal::Refusal;
 
@@ -32,14 +30,13 @@ impl System {
     ghost use Rattle.strict.specs.System.{DecodedFrom, value_after, values_after};
 
     // The system of an image.
-    fn of(image: &[u8]) -> System
-        requires { Accepted image.now }
-        ensures { DecodedFrom image.now result }
+    fn of(netlist: Netlist) -> System
+        ensures { DecodedFrom netlist.entry.image.now result }
     {
         System {
-            nodes: usize::from(netlist::nodes(image)),
-            kinds: kinds_of(image),
-            feeders: feeders_of(image),
+            nodes: usize::from(netlist.nodes()),
+            kinds: kinds_of(netlist),
+            feeders: feeders_of(netlist),
         }
     }
 
@@ -75,91 +72,67 @@ impl System {
 }
 
 // All kinds.
-fn kinds_of(image: &[u8]) -> [Kind; 64]
-    requires { Accepted image.now }
-    ensures { KindsBelow image.now (nodes image.now) result }
+fn kinds_of(netlist: Netlist) -> [Kind; 64]
+    ensures { KindsBelow netlist.entry.image.now (nodes netlist.entry.image.now) result }
 {
     let mut kinds = [Kind::Count; 64];
-    for n in 0..netlist::nodes(image) {
-        kinds[usize::from(n)] = Kind::try_from(netlist::core_at(image, n).kind).unwrap();
+    for n in 0..netlist.nodes() {
+        kinds[usize::from(n)] = Kind::try_from(netlist.core(n).kind).unwrap();
     }
     kinds
 }
 
 // The node that feeds each port.
-fn feeders_of(image: &[u8]) -> [u8; 192]
-    requires { Wired image.now (channels image.now) }
-    ensures { result ≡ feeders_below image.now (channels image.now) }
+fn feeders_of(netlist: Netlist) -> [u8; 192]
+    ensures { result ≡ feeders_below netlist.entry.image.now (channels netlist.entry.image.now) }
 {
     let mut feeders = [64; 192];
-    for c in 0..netlist::channels(image) {
-        let channel = netlist::channel_at(image, c);
+    for c in 0..netlist.channels() {
+        let channel = netlist.channel(c);
         feeders[3 * usize::from(channel.to) + usize::from(channel.port)] = channel.from;
     }
     feeders
 }
 
 // The values of cycle 0: all parameters.
-fn first(image: &[u8]) -> [i32; 65]
-    requires { nodes image.now ≤ 64 }
-    ensures { result ≡ values_at image.now 0 }
+fn first(netlist: Netlist) -> [i32; 65]
+    ensures { result ≡ values_at netlist.entry.image.now 0 }
 {
     let mut values = [0; 65];
-    for n in 0..netlist::nodes(image) {
-        values[usize::from(n)] = netlist::core_at(image, n).parameter;
+    for n in 0..netlist.nodes() {
+        values[usize::from(n)] = netlist.core(n).parameter;
     }
     values
 }
 
 // The values of a cycle.
-fn reached(image: &[u8], cycle: u32) -> [i32; 65]
-    requires { Accepted image.now }
-    ensures { result ≡ values_at image.now cycle }
+fn reached(netlist: Netlist, cycle: u32) -> [i32; 65]
+    ensures { result ≡ values_at netlist.entry.image.now cycle }
 {
-    let system = System::of(image);
-    let mut values = first(image);
+    let system = System::of(netlist);
+    let mut values = first(netlist);
     for t in 0..cycle {
         values = system.after(&values);
     }
     values
 }
 
-// The judge's answer.
-fn judged(image: &[u8]) -> Result<(), Refusal>
-    ensures { number_of result ≡ judge image.now }
+// The netlist for a run that is lent an array of so many places. The judge's refusal comes first, then
+// that of a late cycle, then that of a short array.
+#[tactic(auto, unfolding(crate::specs::Answer::strict_number))]
+fn allowed<'a>(image: &'a [u8], cycle: u32, room: usize) -> Result<Netlist<'a>, Refusal>
+    ensures number { number_of result ≡ strict_number image.entry.now cycle room }
+    ensures same { IfOk result (λ netlist. netlist.image ≡ image.entry) }
+    ensures room_for_all { OnOk result (nodes image.entry.now ≤ room) }
 {
-    match netlist::judge(image) {
-        0 => Ok(()),
-        1 => Err(Refusal::Short),
-        2 => Err(Refusal::Sizes),
-        3 => Err(Refusal::Length),
-        4 => Err(Refusal::Kind),
-        5 => Err(Refusal::Wire),
-        6 => Err(Refusal::Port),
-        7 => Err(Refusal::FedTwice),
-        8 => Err(Refusal::NotFed),
-        9 => Err(Refusal::Stations),
-        10 => Err(Refusal::Depth),
-        _ => Err(Refusal::Total),
-    }
-}
-
-// Whether a run may be made that is lent an array of so many places: the judge's refusal, then that of
-// a late cycle, then that of a short array.
-#[tactic(auto, using(netlist::specs::AcceptedLaws::accepted), unfolding(crate::specs::Answer::strict_number))]
-fn allowed(image: &[u8], cycle: u32, room: usize) -> Result<(), Refusal>
-    ensures number { number_of result ≡ strict_number image.now cycle room }
-    ensures accepted { OnOk result (Accepted image.now) }
-    ensures room_for_all { OnOk result (nodes image.now ≤ room) }
-{
-    judged(image)?;
+    let netlist = Netlist::judged(image)?;
     if LAST < cycle {
         return Err(Refusal::Limit);
     }
-    if room < usize::from(netlist::nodes(image)) {
+    if room < usize::from(netlist.nodes()) {
         return Err(Refusal::Room);
     }
-    Ok(())
+    Ok(netlist)
 }
 
 // The values of all N nodes in a cycle, written to the first N places of `values`. A refused run
@@ -170,9 +143,9 @@ pub fn strict(image: &[u8], cycle: u32, values: &mut [i32]) -> Result<(), Refusa
     ensures value { number_of result ≡ strict_number image.now cycle (length values.old) }
     ensures values_after { values.new ≡ strict_written image.now cycle values.old }
 {
-    allowed(image, cycle, values.len())?;
-    let nodes = usize::from(netlist::nodes(image));
-    let found = reached(image, cycle);
+    let netlist = allowed(image, cycle, values.len())?;
+    let nodes = usize::from(netlist.nodes());
+    let found = reached(netlist, cycle);
     values[..nodes].copy_from_slice(&found[..nodes]);
     Ok(())
 }

@@ -3,4 +3,4 @@ use Rattle.strict.specs.Decoded.{feeders_below}
 use Rattle.strict.proofs.feeders_of.Given as goal
 
 abbrev pub invariant-loop-c : goal.invariant-loop-c
-invariant-loop-c l = l.feeders ≡ feeders_below l.image l.c
+invariant-loop-c l = l.feeders ≡ feeders_below l.netlist.image.now l.c

@@ -6,4 +6,4 @@ use Rattle.netlist.specs.Image.{parameter}
 use Rattle.strict.proofs.first.Given as goal
 
 abbrev pub invariant-loop-n : goal.invariant-loop-n
-invariant-loop-n l = l.values ≡ padded 65 (pos 0) (table (parameter l.image) l.n)
+invariant-loop-n l = l.values ≡ padded 65 (pos 0) (table (parameter l.netlist.image.now) l.n)

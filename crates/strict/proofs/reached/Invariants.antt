@@ -3,4 +3,4 @@ use Rattle.strict.specs.Decoded.{values_at}
 use Rattle.strict.proofs.reached.Given as goal
 
 abbrev pub invariant-loop-t : goal.invariant-loop-t
-invariant-loop-t l = l.values ≡ values_at l.image l.t
+invariant-loop-t l = l.values ≡ values_at l.netlist.image.now l.t
