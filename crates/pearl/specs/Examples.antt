@@ -1,7 +1,8 @@
--- The definitions here, computed: the whole table, what wraps, and numbers that are no kind. The edges that document 01 stars are in `starred`.
-use Rattle.std.specs.Prelude.{[], ◌∷◌, ◌≡◌, refl, pos, negsuc}
+-- The definitions here, computed: the whole table, what wraps, and numbers that are no kind. The starred edges are in `starred`.
+use Rattle.std.specs.Prelude.{[], ◌∷◌, Ok, Err, ◌≡◌, refl, pos, negsuc}
 use Rattle.laws.specs.Signed.{signed}
 use Rattle.laws.specs.Table.{table}
+use Rattle.refusal.specs.declared.Refusal.TheVariants.{Kind as NoKind}
 use Rattle.pearl.specs.Wrap.{wrap}
 use Rattle.pearl.specs.Next.{halve, larger, choose, exact, next_value, next}
 
@@ -34,10 +35,10 @@ ends = (refl, refl, refl, refl, refl, refl)
 
 -- 1 and 9 are kinds; 0, 10 and 255 are none
 numbers :
-    (next 1 (pos 5) (pos 8) (pos 7) (pos 11) ≡ record { number = 0; value = pos 6 }) ×
-    (next 9 (pos 5) (pos 8) (pos 7) (pos 11) ≡ record { number = 0; value = pos 11 }) ×
-    (next 0 (pos 5) (pos 8) (pos 7) (pos 11) ≡ record { number = 4; value = pos 0 }) ×
-    (next 10 (pos 5) (pos 8) (pos 7) (pos 11) ≡ record { number = 4; value = pos 0 }) ×
-    (next 255 (pos 5) (pos 8) (pos 7) (pos 11) ≡ record { number = 4; value = pos 0 })
+    (next 1 (pos 5) (pos 8) (pos 7) (pos 11) ≡ Ok (pos 6)) ×
+    (next 9 (pos 5) (pos 8) (pos 7) (pos 11) ≡ Ok (pos 11)) ×
+    (next 0 (pos 5) (pos 8) (pos 7) (pos 11) ≡ Err NoKind) ×
+    (next 10 (pos 5) (pos 8) (pos 7) (pos 11) ≡ Err NoKind) ×
+    (next 255 (pos 5) (pos 8) (pos 7) (pos 11) ≡ Err NoKind)
 unfolding wrap signed choose exact next_value next
 numbers = (refl, refl, refl, refl, refl)

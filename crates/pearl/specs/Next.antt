@@ -1,10 +1,11 @@
 -- The table of cores: a node's next value from its present value s and its ports' values a, b and c.
-use Rattle.std.specs.Prelude.{ℕ, ◌/◌, eqb, ℤ, pos, negsuc, ◌+ℤ◌, ◌-ℤ◌}
+use Rattle.std.specs.Prelude.{Result, Ok, Err, ℕ, ◌/◌, eqb, ℤ, pos, negsuc, ◌+ℤ◌, ◌-ℤ◌}
 use Rattle.std.specs.Int.Signed.{lt_z}
 use Rattle.laws.specs.Choice.{◌if◌else◌}
 use Rattle.laws.specs.Range.{outside}
+use Rattle.refusal.specs.declared.Refusal.{Refusal}
+use Rattle.refusal.specs.declared.Refusal.TheVariants.{Kind as NoKind}
 use Rattle.pearl.specs.Wrap.{wrap}
-use Rattle.pearl.specs.declared.Next.{Next}
 
 -- "a / 2, rounded toward minus infinity" (`negsuc n` is - (n + 1); half of that, rounded down, is - (n / 2 + 1))
 unfoldable pub halve : ℤ → ℤ
@@ -37,10 +38,6 @@ exact kind s a b c =
 unfoldable pub next_value : ℕ → ℤ → ℤ → ℤ → ℤ → ℤ
 next_value kind s a b c = wrap (exact kind s a b c)
 
--- what `next_value` answers where the result in the integers is z
-unfoldable pub fired : ℤ → Next
-fired z = record { number = 0; value = wrap z }
-
--- and whatever the kind is: the next value, beside number 4 for a "kind not 1 to 9", whose value is 0
-unfoldable pub next : ℕ → ℤ → ℤ → ℤ → ℤ → Next
-next kind s a b c = record { number = 4 if outside 1 9 kind else 0; value = next_value kind s a b c }
+-- and whatever the number of the kind is: the next value, or the refusal of a "kind not 1 to 9"
+unfoldable pub next : ℕ → ℤ → ℤ → ℤ → ℤ → Result ℤ Refusal
+next kind s a b c = Err NoKind if outside 1 9 kind else Ok (next_value kind s a b c)

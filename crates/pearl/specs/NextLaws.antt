@@ -1,10 +1,12 @@
 -- Laws of the next value. Assumes nothing.
 use Rattle.std.specs.Prelude.{true, ◌⊎◌, ◌≡◌, ℕ, suc, ◌+◌, ◌/◌, ◌%◌, ◌<◌, ◌≤◌, ℤ, pos, negsuc, ◌+ℤ◌}
+use Rattle.std.specs.Int.{int_max}
+use Rattle.std.proofs.lemmas.Int.{ints, clamps}
 use Rattle.std.proofs.Common.{inl, inr, ⊎_elim, ap, arith, ne_eqb, ltb-true, le-ltb}
 use Rattle.laws.specs.Cases.{lt-or-ge}
 use Rattle.laws.specs.SignedLaws.{sub_below}
 use Rattle.laws.specs.Range.{outside}
-use Rattle.pearl.specs.Next.{halve, exact}
+use Rattle.pearl.specs.Next.{halve, larger, exact}
 
 -- halving rounds down: a is twice its half, or that and 1
 pub halve_down : (a : ℤ) → (a ≡ halve a +ℤ halve a) ⊎ (a ≡ (halve a +ℤ halve a) +ℤ pos 1)
@@ -37,3 +39,8 @@ exact_none k e s a b c =
       ne_eqb k 9 (λ q. omega arith),
     ))
     (lt-or-ge k 1)
+
+-- the library's greater of two is the one here
+pub larger-int_max : (a b : ℤ) → int_max a b ≡ larger a b
+unfolding larger
+larger-int_max a b = grind (arith, ints, clamps)

@@ -1,11 +1,12 @@
 -- Laws of `wrap`. Assumes nothing.
-use Rattle.std.specs.Prelude.{true, false, ◌≡◌, ℕ, zero, suc, ◌-◌, ◌%◌, ◌^◌, ◌<◌, ◌≤◌, ℤ, pos, negsuc, ◌+ℤ◌, ◌-ℤ◌}
+use Rattle.std.specs.Prelude.{true, false, ◌≡◌, refl, suc, ◌-◌, ◌%◌, ◌^◌, ◌<◌, ◌≤◌, ℤ, pos, negsuc, ◌+ℤ◌, ◌-ℤ◌}
 use Rattle.std.proofs.lemmas.Bool.{false≢true}
-use Rattle.std.proofs.Common.{⊎_elim, sym, ap, ◌∙◌, arith, ltb-true, ltb-false, SFits}
-use Rattle.std.proofs.Math.IntN.{sub_ℕ}
+use Rattle.std.proofs.Common.{sym, ap, ◌∙◌, arith, ltb-true, ltb-false, SFits}
+use Rattle.std.proofs.Math.IntN.{neg_ℤ, +ℤ_idl}
 use Rattle.std.specs.Int.Signed.{mag, lt_z}
-use Rattle.std.specs.Int.{w32, w64}
-use Rattle.laws.specs.Cases.{lt-or-ge}
+use Rattle.std.specs.Int.{w32, int_wrapping_add, int_wrapping_sub, int_wrapping_neg, int_wrap}
+use Rattle.std.proofs.lemmas.Int.{wrapping_add_is, wrapping_sub_is, wrapping_neg_is}
+use Rattle.laws.specs.Signed.{signed}
 use Rattle.laws.specs.SignedLaws.{sub_below, sub_above, signed_low, signed_high}
 use Rattle.pearl.specs.Wrap.{wrap}
 
@@ -44,26 +45,22 @@ pub within : (z : ℤ) → lt_z (pos 2147483647) z ≡ false → lt_z z (negsuc 
 within (pos n) g k = record { sfits = let l : n ≤ 2147483647 = ltb-false _ _ g in omega arith }
 within (negsuc n) g k = record { sfits = let l : n ≤ 2147483647 = ltb-false _ _ k in omega arith }
 
--- a difference of two naturals, and so the sum and the difference of two numbers in the range, are less than 2 ^ 32 off 0
-mag_subℕ : (a b k : ℕ) → a < k → b ≤ k → mag (sub_ℕ a b) < k
-mag_subℕ a b k h g =
-    ⊎_elim (λ (l : a < b). rw (sub_below a b l) (omega arith)) (λ (l : b ≤ a). rw (sub_above a b l) (omega arith)) (lt-or-ge a b)
+-- the library's words for what is left of a sum, a difference and a negated number in 32 bits
+wrap-int_wrap : (z : ℤ) → int_wrap w32 z ≡ wrap z
+unfolding int_wrap wrap signed
+wrap-int_wrap (pos n) = refl
+wrap-int_wrap (negsuc n) =
+    let e : 2 ^ 32 - 1 - n % 2 ^ 32 ≡ 2 ^ 32 - suc (n % 2 ^ 32) = omega arith in
+    rw e
 
-mag_add : (a b : ℤ) → mag a < 2 ^ 31 → mag b < 2 ^ 31 → mag (a +ℤ b) < 2 ^ 32
-mag_add (pos a) (pos b) f g = omega arith
-mag_add (pos a) (negsuc b) f g = mag_subℕ a (suc b) (2 ^ 32) (omega arith) (omega arith)
-mag_add (negsuc a) (pos b) f g = mag_subℕ b (suc a) (2 ^ 32) (omega arith) (omega arith)
-mag_add (negsuc a) (negsuc b) f g = omega arith
+pub wrapping_sum : (a b : ℤ) → SFits w32 a → SFits w32 b → int_wrapping_add w32 a b ≡ wrap (a +ℤ b)
+wrapping_sum a b f g = wrapping_add_is w32 a b f g ∙ wrap-int_wrap (a +ℤ b)
 
-mag_sub : (a b : ℤ) → mag a < 2 ^ 31 → mag b < 2 ^ 31 → mag (a -ℤ b) < 2 ^ 32
-mag_sub a (pos zero) f g = mag_add a (pos zero) f g
-mag_sub a (pos (suc b)) f g = mag_add a (negsuc b) f (omega arith)
-mag_sub (pos a) (negsuc b) f g = omega arith
-mag_sub (negsuc a) (negsuc b) f g = mag_subℕ (suc b) (suc a) (2 ^ 32) (omega arith) (omega arith)
+pub wrapping_difference : (a b : ℤ) → SFits w32 a → SFits w32 b → int_wrapping_sub w32 a b ≡ wrap (a -ℤ b)
+wrapping_difference a b f g = wrapping_sub_is w32 a b f g ∙ wrap-int_wrap (a -ℤ b)
 
--- so in 64 bits they are exact
-pub sum_fits : (a b : ℤ) → SFits w32 a → SFits w32 b → SFits w64 (a +ℤ b) × (mag (a +ℤ b) < 2 ^ 32)
-sum_fits a b f g = let h = mag_add a b f.sfits g.sfits in (record { sfits = omega arith }, h)
+pub wrapping_negation : (a : ℤ) → SFits w32 a → int_wrapping_neg w32 a ≡ wrap (pos 0 -ℤ a)
+wrapping_negation a f = wrapping_neg_is w32 a f ∙ wrap-int_wrap (neg_ℤ a) ∙ ap wrap (sym (+ℤ_idl (neg_ℤ a)))
 
-pub difference_fits : (a b : ℤ) → SFits w32 a → SFits w32 b → SFits w64 (a -ℤ b) × (mag (a -ℤ b) < 2 ^ 32)
-difference_fits a b f g = let h = mag_sub a b f.sfits g.sfits in (record { sfits = omega arith }, h)
+-- and a number in the range and these three, for the check to look among
+pub ruleset wrapped = (wrap-fits, wrapping_sum, wrapping_difference, wrapping_negation)

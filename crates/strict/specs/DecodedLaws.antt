@@ -1,18 +1,19 @@
 -- A cycle of what was decoded is a cycle of the strict system. Assumes nothing.
-use Rattle.std.specs.Prelude.{List, ◌++◌, ◌≡◌, ℕ, suc, ◌*◌, ◌/◌, ◌%◌, ◌<◌, ℤ, set, drop}
-use Rattle.std.proofs.Math.Path.{refl}
-use Rattle.std.proofs.Common.{◌∙◌, arith}
+use Rattle.std.specs.Prelude.{List, ◌≡◌, ℕ, suc, ◌*◌, ◌/◌, ◌%◌, ◌<◌, set, take}
+use Rattle.std.proofs.Common.{⊎_elim, ap, ◌∙◌, arith, get_or-set_same, get_or-set_other}
+use Rattle.laws.specs.Cases.{below_suc}
 use Rattle.std.proofs.Math.Nat.{add-zero}
 use Rattle.std.proofs.Math.IntN.{pos}
-use Rattle.std.proofs.Math.ListN.{length, get_or, get_or-eq_default}
+use Rattle.std.proofs.Math.ListN.{length, length-set, get_or, get_or-eq_default}
 use Rattle.laws.specs.Below.{pick_below}
 use Rattle.laws.specs.BelowLaws.{pick_one, pick_map}
-use Rattle.laws.specs.ListsLaws.{get_or-padded}
+use Rattle.laws.specs.ListsLaws.{get_or-padded, take-padded}
 use Rattle.laws.specs.Table.{table_over}
-use Rattle.laws.specs.TableLaws.{get_d_any, table_same, table_own, over_padded, over_same, padded-table, padded-at}
-use Rattle.netlist.specs.Image.{nodes, channels, kind, parameter, from, feeds}
-use Rattle.netlist.specs.declared.Core.{Core}
-use Rattle.netlist.specs.Readers.{core_at}
+use Rattle.laws.specs.TableLaws.{get_d_any, over_padded, over_same}
+use Rattle.netlist.specs.Image.{nodes, channels, kind, from, feeds}
+use Rattle.pearl.specs.declared.Kind.{Kind}
+use Rattle.pearl.specs.declared.Kind.TheVariants.{Count}
+use Rattle.pearl.specs.Kind.{code}
 use Rattle.netlist.specs.Accepted.{Accepted}
 use Rattle.netlist.specs.AcceptedLaws.{accepted-wired}
 use Rattle.netlist.specs.Ports.{port_place, ports_below}
@@ -20,28 +21,28 @@ use Rattle.netlist.specs.PortsLaws.{ports_length, ports_at}
 use Rattle.node.specs.Node.{port_value, next_of}
 use Rattle.strict.specs.Strict.{strict_next, strict_cycle}
 use Rattle.strict.specs.StrictLaws.{length_cycle}
-use Rattle.strict.specs.declared.Cores.{Cores}
-use Rattle.strict.specs.Decoded.{cores_below, feeders_below, NamesPlaces, port_on, next_on, value_after, values_after, values_at}
+use Rattle.strict.specs.declared.System.{System}
+use Rattle.strict.specs.Decoded.{KindsBelow, feeders_below, NamesPlaces, port_on, values_at}
+use Rattle.strict.specs.System.{DecodedFrom, value_after, values_after}
 
--- one more node is read
-pub cores_turn :
-    (img : List ℕ) (n : ℕ) → n < 64 → (cores : Cores) → cores ≡ cores_below img n → (core : Core) → core ≡ core_at img n
-    → record { kinds = set cores.kinds n core.kind; parameters = set cores.parameters n core.parameter } ≡ cores_below img (suc n)
-unfolding cores_below core_at
-cores_turn img n h cores e core r =
-    rw (e, r, padded-table (kind img) n 64 0 h, padded-table (parameter img) n 65 (pos 0) (omega arith))
+-- one more node's kind is read
+pub kinds_more :
+    (img : List ℕ) (n : ℕ) (kinds : List Kind) (x : Kind) → n < 64 → KindsBelow img n kinds → code x ≡ kind img n
+    → KindsBelow img (suc n) (set kinds n x)
+kinds_more img n kinds x h below e =
+    record {
+      long = rw length-set below.long;
+      each =
+          λ k l.
+          ⊎_elim
+          (λ (q : k ≡ n). rw (q, get_or-set_same kinds n x Count (omega (arith, below.long))) e)
+          (λ (b : k < n). rw (get_or-set_other kinds n k x Count (λ q. omega arith)) (below.each k b))
+          (below_suc l);
+    }
 
 module _ (img : List ℕ) (a : Accepted img) where
-  abbrev cores : Cores
-  cores = cores_below img (nodes img)
-
   abbrev feeders : List ℕ
   feeders = feeders_below img (channels img)
-
-  -- all parameters are the values of cycle 0
-  pub values-first : record { at = cores.parameters } ≡ values_at img 0
-  unfolding cores_below values_at strict_cycle
-  values-first = refl
 
   -- the entry at a port's place
   feeder-at : (n p : ℕ) → n < 64 → p < 3 → get_or feeders (port_place n p) 0 ≡ pick_below (feeds img n p) (from img) 64 (channels img)
@@ -60,51 +61,41 @@ module _ (img : List ℕ) (a : Accepted img) where
       (pick_one (λ n. n < 65) (feeds img (k / 3) (k % 3)) (from img) 64 (channels img) (omega arith)
       (λ c l. omega (arith, a.wires c l, a.few_nodes))))
 
-  kind_at : (n : ℕ) → n < nodes img → get_or cores.kinds n 0 ≡ kind img n
-  unfolding cores_below
-  kind_at n h = padded-at (kind img) (nodes img) 64 n 0 0 h
-
-  value_at_lem : (t n : ℕ) → get_or (values_at img t).at n (pos 0) ≡ get_or (strict_cycle img t) n (pos 0)
+  value_at_lem : (t n : ℕ) → get_or (values_at img t) n (pos 0) ≡ get_or (strict_cycle img t) n (pos 0)
   unfolding values_at
   value_at_lem t n = get_or-padded 65 (pos 0) (strict_cycle img t) n
 
   -- the value at a port's feeder is what stands on the port
   port-on :
       (t n p : ℕ) → n < 64 → p < 3
-      → port_on (values_at img t).at feeders (port_place n p) ≡ port_value img (λ c. get_or (strict_cycle img t) (from img c) (pos 0)) n p
+      → port_on (values_at img t) feeders (port_place n p) ≡ port_value img (λ c. get_or (strict_cycle img t) (from img c) (pos 0)) n p
   unfolding port_on port_value
   port-on t n p h l =
       let vs = strict_cycle img t in
       let none : get_or vs 64 (pos 0) ≡ pos 0 = get_or-eq_default vs (pos 0) (omega (arith, length_cycle img t, a.few_nodes)) in
       rw (feeder-at n p h l, value_at_lem t, pick_map (λ k. get_or vs k (pos 0)) (feeds img n p) (from img) 64 (channels img), none)
 
-  value_after_lem : (t n : ℕ) → n < nodes img → value_after cores.kinds feeders (values_at img t).at n ≡ strict_next img (strict_cycle img t) n
-  unfolding value_after next_on strict_next next_of
-  value_after_lem t n h =
-      let l : n < 64 = omega (arith, a.few_nodes) in
-      let values = (values_at img t).at in
-      let first : port_on values feeders (3 * n) ≡ port_on values feeders (port_place n 0) = rw add-zero in
-      rw (kind_at n h, value_at_lem t n, first, port-on t n 0 l (omega arith), port-on t n 1 l (omega arith), port-on t n 2 l (omega arith))
+  module _ (system : System) (d : DecodedFrom img system) where
+    value_after_lem : (t n : ℕ) → n < nodes img → value_after system (values_at img t) n ≡ strict_next img (strict_cycle img t) n
+    unfolding value_after strict_next next_of
+    value_after_lem t n h =
+        let l : n < 64 = omega (arith, a.few_nodes) in
+        let first : port_on (values_at img t) feeders (3 * n) ≡ port_on (values_at img t) feeders (port_place n 0) = rw add-zero in
+        rw (d.kinds.each n h, d.fed, value_at_lem t n, first, port-on t n 0 l (omega arith), port-on t n 1 l (omega arith), port-on t n 2 l (omega arith))
 
-  -- so all values after a cycle are the next cycle's
-  pub values-after : (t : ℕ) → values_after cores.kinds feeders (nodes img) (values_at img t) ≡ values_at img (suc t)
-  unfolding values_after values_at strict_cycle
-  values-after t =
-      let vs = strict_cycle img t in
-      let old = (values_at img t).at in
-      rw (
-        over_same (value_after cores.kinds feeders old) (strict_next img vs) (nodes img) old (value_after_lem t),
-        over_padded (strict_next img vs) (nodes img) 65 (pos 0) vs (omega (arith, length_cycle img t)),
-      )
+    -- so all values after a cycle are the next cycle's
+    pub values-after : (t : ℕ) → values_after system (values_at img t) ≡ values_at img (suc t)
+    unfolding values_after values_at strict_cycle
+    values-after t =
+        let vs = strict_cycle img t in
+        let old = values_at img t in
+        ap (λ n. table_over (value_after system old) n old) d.counted
+        ∙ rw (
+          over_same (value_after system old) (strict_next img vs) (nodes img) old (value_after_lem t),
+          over_padded (strict_next img vs) (nodes img) 65 (pos 0) vs (omega (arith, length_cycle img t)),
+        )
 
   -- and the first N of them are the cycle
-  pub values_written_lem :
-      (t : ℕ) (old : List ℤ) → table_over (λ n. get_or (values_at img t).at n (pos 0)) (nodes img) old ≡ strict_cycle img t ++ drop (nodes img) old
-  unfolding table_over
-  values_written_lem t old =
-      let vs = strict_cycle img t in
-      rw (
-        table_same (λ n. get_or (values_at img t).at n (pos 0)) (λ n. get_or vs n (pos 0)) (nodes img) (λ n h. value_at_lem t n),
-        ← (length_cycle img t),
-        ← (table_own vs (pos 0)),
-      )
+  pub take-values : (t : ℕ) → take (nodes img) (values_at img t) ≡ strict_cycle img t
+  unfolding values_at
+  take-values t = rw (← (length_cycle img t)) (take-padded 65 (pos 0) (strict_cycle img t))

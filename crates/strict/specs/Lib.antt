@@ -6,5 +6,6 @@ pub mod Examples
 pub mod StrictLaws
 -- What the code decodes of an image, and that it is the same system; what each way out of the run answers.
 pub mod Decoded
+pub mod System
 pub mod DecodedLaws
 pub mod AnswerLaws

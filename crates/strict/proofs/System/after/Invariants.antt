@@ -1,0 +1,7 @@
+use mathlib.Core.Path.{◌≡◌}
+use Rattle.laws.specs.Table.{table_over}
+use Rattle.strict.specs.System.{value_after}
+use Rattle.strict.proofs.System.after.Given as goal
+
+abbrev pub invariant-loop-n : goal.invariant-loop-n
+invariant-loop-n l = l.next ≡ table_over (value_after l.self l.values) l.n l.values

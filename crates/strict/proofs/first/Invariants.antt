@@ -1,0 +1,9 @@
+use mathlib.Core.Path.{◌≡◌}
+use lib.IntN.{pos}
+use Rattle.laws.specs.Lists.{padded}
+use Rattle.laws.specs.Table.{table}
+use Rattle.netlist.specs.Image.{parameter}
+use Rattle.strict.proofs.first.Given as goal
+
+abbrev pub invariant-loop-n : goal.invariant-loop-n
+invariant-loop-n l = l.values ≡ padded 65 (pos 0) (table (parameter l.netlist.image.now) l.n)
