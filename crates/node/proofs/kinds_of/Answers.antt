@@ -1,0 +1,37 @@
+-- `node::kinds_of` meets its contract. The loop's invariant: the kinds of the nodes below n are read. Assumes nothing.
+use mathlib.Core.Path.{◌≡◌}
+use mathlib.Core.Bool.{false}
+use Prim.Native.Nat.{◌<◌}
+use native.Mathlib.Numerals.{add-one}
+use native.Mathlib.Omega.{arith}
+use borrow.Author.Tests.{le-ltb}
+use Rattle.laws.specs.Range.{outside}
+use Rattle.netlist.specs.Image.{nodes, kind}
+use Rattle.netlist.specs.AcceptedLaws.{accepted}
+use Rattle.netlist.specs.Readers.{core_at}
+use Rattle.pearl.specs.KindLaws.{decodes_ok, code-decoded}
+use Rattle.node.specs.KindsLaws.{kinds_none, kinds_more}
+use Rattle.node.proofs.kinds_of.Goals as goal
+
+pub unwrap-requires : goal.unwrap-requires
+unfolding core_at
+unwrap-requires c =
+    let img = c.args.netlist.image.now in
+    let h : c.loop-n.n < nodes img = omega (arith, c.nodes-n-end.ensures.value) in
+    let r = (accepted img c.args.netlist.accepted).kinds c.loop-n.n h in
+    let e : outside 1 9 c.core.result.kind ≡ false =
+    rw (c.core.ensures, le-ltb (kind img c.loop-n.n) 1 r.0, le-ltb 9 (kind img c.loop-n.n) r.1) in
+    decodes_ok c.core.result.kind c.try_from.result e c.try_from.ensures
+
+pub loop-n-init : goal.loop-n-init
+loop-n-init c = kinds_none c.args.netlist.image.now
+
+pub loop-n-preserved : goal.loop-n-preserved
+unfolding core_at
+loop-n-preserved c =
+    let img = c.args.netlist.image.now in
+    let h : c.loop-n.n < nodes img = omega (arith, c.nodes-n-end.ensures.value) in
+    let e = code-decoded c.core.result.kind c.try_from.ensures c.unwrap.ensures in
+    rw (add-one, c.from.ensures)
+    (kinds_more img c.loop-n.n c.loop-n.kinds c.unwrap.result (omega (arith, c.nodes-n-end.ensures.few)) c.loop-n.invariant
+    (rw c.core.ensures at e))
