@@ -8,17 +8,17 @@ use Rattle.std.proofs.Math.Path.{refl, ap}
 use Rattle.std.proofs.Math.Dec.{eqb, ltb}
 use Rattle.std.proofs.Math.ListN.{length, get_or}
 use Rattle.std.proofs.lemmas.List.{length-map}
+use Rattle.std.specs.Bool.{then_some}
 use Rattle.laws.specs.Below.{all_below}
 use Rattle.laws.specs.BelowLaws.{all_same}
 use Rattle.laws.specs.Cases.{true_or_false, or_right}
 use Rattle.laws.specs.Choice.{◌if◌else◌}
 use Rattle.laws.specs.Lists.{holds_two, one_if}
-use Rattle.relay.specs.declared.Link.{Link}
 use Rattle.relay.specs.declared.Station.{Station}
 use Rattle.relay.specs.declared.Row.{Row}
 use Rattle.relay.specs.declared.RowCycle.{RowCycle}
-use Rattle.relay.specs.Link.{token, link_of}
-use Rattle.relay.specs.LinkLaws.{link_of-take, passing-holds}
+use Rattle.relay.specs.Link.{Link, token, link_of}
+use Rattle.relay.specs.LinkLaws.{link_of-take, token_if, passing_flag}
 use Rattle.relay.specs.Station.{held, station_of, place_after}
 use Rattle.relay.specs.Row.{stopped, leaving, row_after}
 use Rattle.relay.specs.RowLaws.{length-after}
@@ -73,16 +73,16 @@ module _ (s : Station) (valid : Bool) (value : ℤ) (stop : Bool) where
 
   -- what `station_step` works out
   pub station_worked :
-      fits s ≡ true → (link : Link) → link ≡ record { valid = valid; value = value }
+      fits s ≡ true → (link : Link) → link ≡ then_some valid value
       → record {
         station = station_of (place_after (token link) (held s) stop);
         answer = reply (link_of (held s)) stop (valid && not (holds_two (held s)));
       } ≡ station_benched s valid value stop
-  unfolding station_benched bench_answer bench_after token leaving stopped row_after
+  unfolding station_benched bench_answer bench_after leaving stopped row_after
   station_worked e link l =
       let n : bench_number (s ∷ []) ≡ 0 = rw e at one in
-      let taken = passing-holds (record { valid = valid; value = value }) (holds_two (held s)) in
-      rw (n, l, link_of-take)
+      let taken = passing_flag valid (holds_two (held s)) value in
+      rw (n, l, token_if valid value, link_of-take)
       (ap (λ (t : Bool). record { station = station_of (place_after (one_if valid value) (held s) stop); answer = reply (link_of (held s)) stop t })
       (sym taken))
 
@@ -152,9 +152,9 @@ module _ (row : Row) (long : length row.stations ≡ 8) (n : ℕ) (valid : Bool)
     -- what `row_step` works out
     pub row_worked :
         all_below (λ i. fits (get_or row.stations i no_station)) n ≡ true
-        → (link : Link) → link ≡ record { valid = valid; value = value } → (cycle : RowCycle) → cycle ≡ row_cycle row n link stop
+        → (link : Link) → link ≡ then_some valid value → (cycle : RowCycle) → cycle ≡ row_cycle row n link stop
         → record { row = cycle.row; answer = reply cycle.leaving stop cycle.taken } ≡ row_benched row n valid value stop
-    unfolding row_benched bench_answer bench_after row_cycle places token
+    unfolding row_benched bench_answer bench_after row_cycle places
     row_worked e link l cycle c =
         let k : bench_number first ≡ 0 = rw (some, e) at (first-number (ltb-false 8 n short)) in
-        rw (c, l, short, k)
+        rw (c, l, token_if valid value, short, k)

@@ -1,15 +1,17 @@
--- Laws of a row that is copied out and stored back: one turn of each loop, and what both leave together. Assumes nothing.
-use Rattle.std.specs.Prelude.{Bool, true, false, ◌≡◌, ℕ, suc, ◌<◌, ◌≤◌, eqb, ℤ, set}
+-- Laws of a row that is copied out and stored back: what both copies leave together. Assumes nothing.
+use Rattle.std.specs.Prelude.{Bool, true, false, ◌≡◌, ℕ, zero, suc, ◌≤◌, eqb, ℤ}
 use mathlib.Core.List.{List, ◌++◌, append-nil}
 use Rattle.std.proofs.Math.Logic.{⊎_elim}
+use Rattle.std.proofs.Math.Bool.{and-true}
 use Rattle.std.proofs.Math.Path.{refl, ap}
-use Rattle.std.proofs.Common.{sym, ◌∙◌, arith, ltb-true, ltb-false}
+use Rattle.std.proofs.Common.{sym, ◌∙◌, arith, ltb-true}
 use Rattle.std.proofs.Math.Dec.{ltb}
-use Rattle.std.proofs.Math.ListN.{length, take, drop, get_or-append}
-use Rattle.std.proofs.Math.Seq.{take-append_seam, drop-length}
+use Rattle.std.proofs.Math.ListN.{length, take, drop}
+use Rattle.std.proofs.Math.Seq.{take-suc, take_all, take-append_seam, drop-length}
+use Rattle.std.specs.List.{list_all}
+use Rattle.std.proofs.lemmas.List.Folds.{list_all-append}
+use Rattle.laws.specs.Below.{all_below}
 use Rattle.laws.specs.Cases.{true_or_false}
-use Rattle.laws.specs.Table.{table, table_over}
-use Rattle.laws.specs.TableLaws.{table_own, table_same, over_set, length_over}
 use Rattle.relay.specs.declared.Station.{Station}
 use Rattle.relay.specs.RowCycle.{no_station}
 use Rattle.bench.specs.declared.Answer.{Answer}
@@ -19,47 +21,23 @@ use Rattle.bench.proofs.BenchLaws.{bench_long, length_bench, bench_stays}
 use Rattle.bench.specs.ByValue.{row_benched}
 use Rattle.bench.specs.Copy.{copies, empty_row, record_at, copied}
 
--- no more are copied than there are, and no more than eight
-pub copies_few : (n : ℕ) → (copies n ≤ n) × (copies n ≤ 8)
-unfolding copies
-copies_few n =
-    ⊎_elim
-    (λ (h : ltb 8 n ≡ true). rw h (omega arith, omega arith))
-    (λ (h : ltb 8 n ≡ false). rw h (omega arith, ltb-false 8 n h))
-    (true_or_false (ltb 8 n))
-
-pub length_empty : length empty_row.stations ≡ 8
-unfolding empty_row
-length_empty = refl
-
--- ---- the loops
-module _ (from to : List Station) where
-  pub copied_none : copied from 0 to ≡ to
-  unfolding copied table_over table
-  copied_none = refl
-
-  pub copied_next : (i : ℕ) → i < length to → set (copied from i to) i (record_at from i) ≡ copied from (suc i) to
-  unfolding copied
-  copied_next i h = over_set (record_at from) i to h
-
-  pub length-copied : (i : ℕ) → i ≤ length to → length (copied from i to) ≡ length to
-  unfolding copied
-  length-copied i h = length_over (record_at from) i to h
+-- a test of the first n records, one by one
+pub all_listed :
+    (test : Station → Bool) (records : List Station) (n : ℕ) → n ≤ length records
+    → list_all test (take n records) ≡ all_below (λ i. test (record_at records i)) n
+unfolding all_below
+all_listed test records zero h = refl
+all_listed test records (suc n) h =
+    rw (take-suc records n no_station h, list_all-append, all_listed test records n (omega arith), and-true)
 
 -- ---- all of it
 -- all records of one list over the front of another
 copied_all : (from to : List Station) → copied from (length from) to ≡ from ++ drop (length from) to
-unfolding copied table_over
-copied_all from to = ap (λ (l : List Station). l ++ drop (length from) to) (sym (table_own from no_station))
+copied_all from to = rw (take_all (length from) from (omega arith))
 
 -- the first records of a list over as many others
 copied_front : (front rest to : List Station) → length front ≡ length to → copied (front ++ rest) (length to) to ≡ front
-unfolding copied table_over
-copied_front front rest to long =
-    let same : table (record_at (front ++ rest)) (length to) ≡ table (record_at front) (length front) =
-    table_same (record_at (front ++ rest)) (record_at front) (length to) (λ i h. get_or-append front rest no_station i (omega arith))
-    ∙ ap (table (record_at front)) (sym long) in
-    rw (same, drop-length, append-nil) (sym (table_own front no_station))
+copied_front front rest to long = rw (drop-length, append-nil, ← long, take-append_seam)
 
 module _ (records : List Station) (valid : Bool) (value : ℤ) (stop : Bool) where
   -- the row by value after the bench
@@ -74,7 +52,7 @@ module _ (records : List Station) (valid : Bool) (value : ℤ) (stop : Bool) whe
   unfolding row_benched
   long_right h =
       let d = bench_long records valid value stop (ltb-true 8 (length records) h) in
-      rw h (d.answered, copied_none (copied records 0 empty_row.stations) records ∙ d.left)
+      rw h (d.answered, d.left)
 
   short_right : ltb 8 (length records) ≡ false → Right (length records)
   unfolding row_benched

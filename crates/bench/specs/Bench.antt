@@ -4,9 +4,8 @@ use Rattle.std.specs.Prelude.{Bool, false, not, ◌&&◌, ◌||◌, List, map, �
 use Rattle.laws.specs.Below.{all_below}
 use Rattle.laws.specs.Choice.{◌if◌else◌}
 use Rattle.laws.specs.Lists.{holds, one_if}
-use Rattle.relay.specs.declared.Link.{Link}
 use Rattle.relay.specs.declared.Station.{Station}
-use Rattle.relay.specs.Link.{link_of, passing, reading}
+use Rattle.relay.specs.Link.{Link, link_of, passing, reading}
 use Rattle.relay.specs.Station.{held, station_of, clear}
 use Rattle.relay.specs.Row.{stopped, leaving, row_after}
 use Rattle.relay.specs.RowCycle.{no_station}

@@ -1,7 +1,6 @@
--- A row that is lent is copied out, worked by value and stored back, record by record.
-use Rattle.std.specs.Prelude.{List, [], ℕ, ltb, get_or, replicate}
+-- A row that is lent is copied out, worked by value and stored back.
+use Rattle.std.specs.Prelude.{List, [], ◌++◌, ℕ, ltb, get_or, take, drop, replicate}
 use Rattle.laws.specs.Choice.{◌if◌else◌}
-use Rattle.laws.specs.Table.{table_over}
 use Rattle.relay.specs.declared.Station.{Station}
 use Rattle.relay.specs.declared.Row.{Row}
 use Rattle.relay.specs.Station.{station_of}
@@ -20,5 +19,5 @@ abbrev pub record_at : List Station → ℕ → Station
 record_at records i = get_or records i no_station
 
 -- the records `to`, once the first i of `from` are copied over them
-unfoldable pub copied : List Station → ℕ → List Station → List Station
-copied from i to = table_over (record_at from) i to
+abbrev pub copied : List Station → ℕ → List Station → List Station
+copied from i to = take i from ++ drop i to

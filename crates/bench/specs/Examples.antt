@@ -1,11 +1,10 @@
--- The definitions here, computed: source document 004's table 1 and source document 000's figure 6 through a station, rows of 1, 2 and 8, and what is
--- refused.
+-- The definitions here, computed: a table of readings and eleven more cycles through a station, rows of 1, 2 and 8, and what is refused.
 use Rattle.std.specs.Prelude.{true, false, List, [], ◌∷◌, ◌++◌, ◌≡◌, refl, ℕ, eqb, ltb, ℤ, pos, negsuc, replicate}
 use Rattle.laws.specs.Below.{all_below}
 use Rattle.laws.specs.Choice.{◌if◌else◌}
 use Rattle.laws.specs.Lists.{padded, zero_from}
 use Rattle.relay.specs.declared.Station.{Station}
-use Rattle.relay.specs.Link.{link_of, letter, reading}
+use Rattle.relay.specs.Link.{letter, reading}
 use Rattle.relay.specs.Station.{held, station_of, place_after}
 use Rattle.relay.specs.Row.{stopped, leaving, row_after}
 use Rattle.bench.specs.declared.Answer.{Answer}
@@ -57,7 +56,7 @@ table1 :
     answers (none ∷ []) (1 ∷ 2 ∷ 3 ∷ 0 ∷ 0 ∷ 0 ∷ 0 ∷ 4 ∷ 0 ∷ 0 ∷ []) (0 ∷ 0 ∷ 1 ∷ 1 ∷ 0 ∷ 0 ∷ 0 ∷ 1 ∷ 1 ∷ 0 ∷ []) ≡
     took i ∷ took (t 1) ∷ took (r 2) ∷ r 2 ∷ t 2 ∷ t 3 ∷ i ∷ took s ∷ r 4 ∷ t 4 ∷ []
 unfolding
-    letter reading link_of held station_of place_after stopped leaving row_after padded all_below zero_from fits bench_number refusal reply bench_answer
+    letter reading held station_of place_after stopped leaving row_after padded all_below zero_from fits bench_number refusal reply bench_answer
     bench_after
 table1 = refl
 
@@ -69,7 +68,7 @@ figure6 :
     took i ∷ t 1 ∷ took i ∷ t 2 ∷ took s ∷ took (t 3) ∷ r 4 ∷ took (t 4) ∷ took (r 5) ∷ t 5 ∷ took (t 6) ∷ []) ×
     (row_left (none ∷ []) enter stop ≡ station (pos 7) (pos 0) 1 ∷ [])
 unfolding
-    letter reading link_of held station_of place_after stopped leaving row_after padded all_below zero_from fits bench_number refusal reply bench_answer
+    letter reading held station_of place_after stopped leaving row_after padded all_below zero_from fits bench_number refusal reply bench_answer
     bench_after
 figure6 = (refl, refl)
 
@@ -83,7 +82,7 @@ edges :
     (bench_answer (one (negsuc 3)) false (pos 6) true ≡ record { number = 0; letter = 82; value = negsuc 3; taken = false }) ×
     (bench_after (one (negsuc 3)) false (pos 6) true ≡ one (negsuc 3))
 unfolding
-    letter reading link_of held station_of place_after stopped leaving row_after padded all_below zero_from fits bench_number refusal reply bench_answer
+    letter reading held station_of place_after stopped leaving row_after padded all_below zero_from fits bench_number refusal reply bench_answer
     bench_after
 edges = (refl, refl, refl, refl, refl, refl)
 
@@ -96,7 +95,7 @@ two :
     took i ∷ took i ∷ took (r 1) ∷ took (r 1) ∷ r 1 ∷ t 1 ∷ r 2 ∷ took (t 2) ∷ t 3 ∷ took (r 4) ∷ took (r 4) ∷ t 4 ∷ r 5 ∷ t 5 ∷ []) ×
     (row_left (none ∷ none ∷ []) enter stop ≡ station (pos 7) (pos 0) 1 ∷ station (pos 6) (pos 0) 1 ∷ [])
 unfolding
-    letter reading link_of held station_of place_after stopped leaving row_after padded all_below zero_from fits bench_number refusal reply bench_answer
+    letter reading held station_of place_after stopped leaving row_after padded all_below zero_from fits bench_number refusal reply bench_answer
     bench_after
 two = (refl, refl)
 
@@ -109,7 +108,7 @@ eight :
     (bench_answer (full ++ (station (pos 3) (pos 4) 2 ∷ [])) true (pos 5) false ≡ t 3) ×
     (bench_after (full ++ (station (pos 3) (pos 4) 2 ∷ [])) true (pos 5) false ≡ full ++ (station (pos 4) (pos 0) 1 ∷ []))
 unfolding
-    letter reading link_of held station_of place_after stopped leaving row_after padded all_below zero_from fits bench_number refusal reply bench_answer
+    letter reading held station_of place_after stopped leaving row_after padded all_below zero_from fits bench_number refusal reply bench_answer
     bench_after
 eight = (refl, refl, refl, refl)
 
@@ -141,7 +140,7 @@ by_value :
     (records_benched nine 3 true (pos 2) false ≡ record { records = nine; answer = refusal 21 }) ×
     (records_benched nine 12 true (pos 2) false ≡ record { records = nine; answer = refusal 15 })
 unfolding
-    letter reading link_of held station_of place_after stopped leaving row_after padded all_below zero_from fits bench_number refusal reply bench_answer
+    letter reading held station_of place_after stopped leaving row_after padded all_below zero_from fits bench_number refusal reply bench_answer
     bench_after
     station_benched row_benched records_benched
 by_value = (refl, refl, refl, refl, refl)

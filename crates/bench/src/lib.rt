@@ -68,29 +68,17 @@ pub fn station_bench(s: &mut Station, valid: bool, value: i32, stop: bool) -> An
 // records or over 8, then 21 as above: the row stays as it was.
 //
 // The row is copied out, worked by value, and stored back only if it was accepted. A row that is too
-// long is not copied: its number is 15 whatever it holds. Both loops stand here, beside the contract of
-// what is lent.
+// long is not copied: its number is 15 whatever it holds.
 pub fn row_bench(row: &mut [Station], valid: bool, value: i32, stop: bool) -> Answer
     ensures { BenchDone row.old valid value stop result row.new }
 {
     let n = row.len();
     let m = steps::copies(n);
-    let empty = steps::empty_row();
-    let mut copy = empty.stations;
-    let mut i = 0;
-    while i < m {
-        copy[i] = row[i];
-        i += 1;
-    }
+    let mut copy = steps::empty_row().stations;
+    copy[..m].copy_from_slice(&row[..m]);
     let out = steps::row_step(Row { stations: copy }, n, valid, value, stop);
-    let after = out.row;
-    let back = after.stations;
     if steps::accepted(out.answer) {
-        let mut j = 0;
-        while j < m {
-            row[j] = back[j];
-            j += 1;
-        }
+        row[..m].copy_from_slice(&out.row.stations[..m]);
     }
     out.answer
 }

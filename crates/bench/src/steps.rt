@@ -6,9 +6,10 @@ ghost use Rattle.bench.specs.ByValue.{station_benched, row_benched};
 ghost use Rattle.bench.specs.Copy.{copies, record_at, empty_row};
 
 use crate::{Answer, Records, RowBenched, StationBenched};
-use relay::{Link, Row, Station};
+use relay::{Link, Reading, Row, Station};
 
 // Number 21 of a record: a count within the depth, and 0 in every place that holds no token.
+#[tactic(auto, unfolding(crate::specs::Bench::fits))]
 fn fits(station: Station) -> bool
     ensures { result ≡ fits station }
 {
@@ -16,6 +17,7 @@ fn fits(station: Station) -> bool
 }
 
 // What a bench that is refused answers.
+#[tactic(auto, unfolding(crate::specs::Bench::refusal))]
 fn refusal(number: u8) -> Answer
     ensures { result ≡ refusal number }
 {
@@ -28,10 +30,11 @@ fn refusal(number: u8) -> Answer
 }
 
 // What one that is not refused answers, from the link that leaves the row.
+#[tactic(auto, unfolding(crate::specs::Bench::reply))]
 fn reply(link: Link, stop: bool, taken: bool) -> Answer
     ensures { result ≡ reply link stop taken }
 {
-    let reading = link.reading(stop);
+    let reading = Reading::of(link, stop);
     Answer {
         number: 0,
         letter: reading.letter,
@@ -57,7 +60,7 @@ pub fn station_step(station: Station, valid: bool, value: i32, stop: bool) -> St
             answer: refusal(21),
         };
     }
-    let link = Link { valid, value };
+    let link = valid.then_some(value);
     let taken = valid & !station.full();
     let answer = reply(station.link(), stop, taken);
     StationBenched {
@@ -71,14 +74,7 @@ fn row_fits(row: Row, n: usize) -> bool
     requires { n ≤ 8 }
     ensures { result ≡ all_below (λ i. fits (record_at row.stations i)) n }
 {
-    let mut fit = true;
-    let mut i: usize = 0;
-    while i < n {
-        let station = row.stations[i];
-        fit = fit & fits(station);
-        i += 1;
-    }
-    fit
+    row.stations[..n].iter().all(|station| fits(*station))
 }
 
 // The row bench of the first n records.
@@ -97,30 +93,31 @@ pub fn row_step(row: Row, n: usize, valid: bool, value: i32, stop: bool) -> RowB
             answer: refusal(21),
         };
     }
-    let link = Link { valid, value };
-    let cycle = row.cycle(n as u8, link, stop);
-    let after = cycle.row;
-    let leaving = cycle.leaving;
-    let answer = reply(leaving, stop, cycle.taken);
-    RowBenched { row: after, answer }
+    let cycle = row.cycle(n as u8, valid.then_some(value), stop);
+    RowBenched {
+        row: cycle.row,
+        answer: reply(cycle.leaving, stop, cycle.taken),
+    }
 }
 
 // ---- a row that is lent: copied out, and stored back
 
 // How many records are copied: all of a row that is not too long, and none of one that is.
+#[tactic(auto, unfolding(crate::specs::Copy::copies))]
 pub(crate) fn copies(n: usize) -> usize
-    ensures { result ≡ copies n }
+    ensures of_n { result ≡ copies n }
+    ensures few { (result ≤ n) × (result ≤ 8) }
 {
     if (Row::LENGTH as usize) < n { 0 } else { n }
 }
 
 // Eight empty stations, to be copied over.
+#[tactic(auto, unfolding(crate::specs::Copy::empty_row))]
 pub(crate) fn empty_row() -> Row
     ensures { result ≡ empty_row }
 {
-    let station = Station::empty();
     Row {
-        stations: [station; 8],
+        stations: [Station::empty(); 8],
     }
 }
 
@@ -130,9 +127,5 @@ pub(crate) fn empty_row() -> Row
 pub(crate) fn lent(length: usize) -> usize
     ensures { result ≡ min length 9 }
 {
-    if length < Records::COUNT {
-        length
-    } else {
-        Records::COUNT
-    }
+    length.min(Records::COUNT)
 }

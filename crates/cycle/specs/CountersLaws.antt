@@ -1,5 +1,5 @@
 -- The counter law: what one cycle does to the counts, and when a node fires by them. It holds of every steady state, reached or not. Assumes nothing.
-use Rattle.std.specs.Prelude.{true, false, ◌≡◌, leb, ltb, ℤ, drop}
+use Rattle.std.specs.Prelude.{is_some, true, false, ◌≡◌, leb, ltb, ℤ, drop}
 use mathlib.Core.List.{List, [], ◌∷◌, ◌++◌}
 use Rattle.std.proofs.Math.Logic.{⊎_elim}
 use Rattle.std.proofs.Math.Path.{refl, ap}
@@ -174,7 +174,7 @@ blocked_by (x ∷ xs) b top o l =
 
 module _ (img : List ℕ) (s : State) (ok : Steady img s) (c : ℕ) (h : c < channels img) where
   -- an input is ready once the to node's next token has come up to its queue
-  ready_count : (input_at img s c).valid ≡ ltb (firings_at s (to img c)) (entered img s c (stations img c))
+  ready_count : is_some (input_at img s c) ≡ ltb (firings_at s (to img c)) (entered img s c (stations img c))
   unfolding input_at input arriving
   ready_count =
       let ch = channel_in img s c in
@@ -210,7 +210,7 @@ module _ (img : List ℕ) (w : ℕ) (s : State) (ok : Steady img s) (n : ℕ) wh
         free = λ c h q. rw q at (free c h (e.1 c h q));
       }
     where
-      fed : (c : ℕ) → c < channels img → (input_at img s c).valid ≡ true → firings_at s (to img c) < entered img s c (stations img c)
+      fed : (c : ℕ) → c < channels img → is_some (input_at img s c) ≡ true → firings_at s (to img c) < entered img s c (stations img c)
       fed c h e = ltb-true (firings_at s (to img c)) (entered img s c (stations img c)) (sym (ready_count img s ok c h) ∙ e)
 
       free : (c : ℕ) → c < channels img → blocked_at img s c ≡ false → firings_at s (from img c) < limit img s c 0

@@ -1,12 +1,12 @@
 -- One latency-insensitive cycle of the whole netlist, "from the state at the start of the cycle".
-use Rattle.std.specs.Prelude.{Bool, true, not, ◌&&◌, List, [], ◌∷◌, ℕ, suc, ◌/◌, ◌%◌, ◌^◌, eqb, ℤ}
+use Rattle.std.specs.Prelude.{is_some, unwrap_or, pos, Bool, true, not, ◌&&◌, List, [], ◌∷◌, ℕ, suc, ◌/◌, ◌%◌, ◌^◌, eqb, ℤ}
 use Rattle.laws.specs.Below.{all_below, any_below}
 use Rattle.laws.specs.Choice.{◌if◌else◌}
 use Rattle.laws.specs.Lists.{holds}
 use Rattle.laws.specs.Table.{table}
 use Rattle.netlist.specs.Image.{channels, from, to, depth}
 use Rattle.node.specs.Node.{next_of}
-use Rattle.relay.specs.declared.Link.{Link}
+use Rattle.relay.specs.Link.{Link}
 use Rattle.relay.specs.declared.Reading.{Reading}
 use Rattle.shell.specs.Channel.{Channel, blocked, input, stop_above, seen, channel_after}
 use Rattle.state.specs.declared.Node.{Node}
@@ -32,7 +32,7 @@ module _ (img : List ℕ) (s : State) where
 
   -- data validation: "all [of node n's] inputs are ready"
   unfoldable pub all_ready : ℕ → Bool
-  all_ready n = all_below (λ c. (input_at c).valid if eqb (to img c) n else true) (channels img)
+  all_ready n = all_below (λ c. is_some (input_at c) if eqb (to img c) n else true) (channels img)
 
   -- back pressure: some channel that node n feeds is blocked
   unfoldable pub any_blocked : ℕ → Bool
@@ -46,7 +46,7 @@ module _ (img : List ℕ) (word : ℕ) (s : State) where
   -- "Firing takes the oldest token from each input, sets the next value ..; its firings rise by 1."
   unfoldable pub node_after : ℕ → Node
   node_after n =
-      record { value = next_of img (λ c. (input_at img s c).value) n (value_at s n); firings = suc (firings_at s n) } if fires n else
+      record { value = next_of img (λ c. unwrap_or (input_at img s c) (pos 0)) n (value_at s n); firings = suc (firings_at s n) } if fires n else
       node_at s n
 
   -- "Then a passed token leaves its place and enters the next. Firing .. makes [the next value] pending on all its channels"

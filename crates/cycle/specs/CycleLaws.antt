@@ -1,5 +1,5 @@
 -- Laws of a cycle: what each node and each channel is after it, and what firing asks. Assumes nothing.
-use Rattle.std.specs.Prelude.{Bool, true, false, not, ◌&&◌, List, ◌++◌, ◌↔◌, ◌≡◌, ℕ, suc, ◌+◌, ◌<◌, ℤ, length}
+use Rattle.std.specs.Prelude.{is_some, unwrap_or, pos, Bool, true, false, not, ◌&&◌, List, ◌++◌, ◌↔◌, ◌≡◌, ℕ, suc, ◌+◌, ◌<◌, ℤ, length}
 use Rattle.std.proofs.Math.Logic.Iff.{rfl}
 use Rattle.std.proofs.Math.Path.{refl, sym, ap}
 use Rattle.std.proofs.Common.{◌∙◌, arith}
@@ -13,8 +13,7 @@ use Rattle.laws.specs.TestsLaws.{eq_iff, not_iff, and-iff, nand-iff, if-iff}
 use Rattle.netlist.specs.Image.{nodes, channels, from, to, stations, depth}
 use Rattle.netlist.specs.Accepted.{Accepted}
 use Rattle.node.specs.Node.{next_of}
-use Rattle.relay.specs.declared.Link.{Link}
-use Rattle.relay.specs.Link.{passing}
+use Rattle.relay.specs.Link.{Link, passing}
 use Rattle.relay.specs.LinkLaws.{valid_holds}
 use Rattle.relay.specs.RowLaws.{length-after}
 use Rattle.shell.specs.Queue.{full}
@@ -77,7 +76,7 @@ module _ (img : List ℕ) (a : Accepted img) (w : ℕ) (s : State) where
   -- ---- a node's value and firings
   pub value_next :
       (n : ℕ) → n < nodes img
-      → value_at (state_after img w s) n ≡ (next_of img (λ c. (input_at img s c).value) n (value_at s n) if fires img w s n else value_at s n)
+      → value_at (state_after img w s) n ≡ (next_of img (λ c. unwrap_or (input_at img s c) (pos 0)) n (value_at s n) if fires img w s n else value_at s n)
   unfolding node_after
   value_next n h = ap (λ (x : Node). x.value) (node_next n h) ∙ value_if (fires img w s n) _ (node_at s n)
 
@@ -89,21 +88,21 @@ module _ (img : List ℕ) (a : Accepted img) (w : ℕ) (s : State) where
 -- a node fires exactly if it is not stalled, each of its inputs is ready, and none of its tokens is blocked
 module _ (img : List ℕ) (w : ℕ) (s : State) (n : ℕ) where
   pub fires-iff : (fires img w s n ≡ true) ↔
-      (((stalled w n ≡ false) × ((c : ℕ) → c < channels img → to img c ≡ n → (input_at img s c).valid ≡ true)) ×
+      (((stalled w n ≡ false) × ((c : ℕ) → c < channels img → to img c ≡ n → is_some (input_at img s c) ≡ true)) ×
       ((c : ℕ) → c < channels img → from img c ≡ n → blocked_at img s c ≡ false))
   unfolding fires all_ready any_blocked
   fires-iff =
       and-iff (not (stalled w n) && all_ready img s n) (not (any_blocked img s n))
       (and-iff (not (stalled w n)) (all_ready img s n) (not_iff (stalled w n) rfl)
-      (all_iff (λ c. (input_at img s c).valid if eqb (to img c) n else true) (channels img)
-      (λ c. if-iff (eqb (to img c) n) (input_at img s c).valid (eq_iff (to img c) n) rfl)))
+      (all_iff (λ c. is_some (input_at img s c) if eqb (to img c) n else true) (channels img)
+      (λ c. if-iff (eqb (to img c) n) (is_some (input_at img s c)) (eq_iff (to img c) n) rfl)))
       (not_iff (any_blocked img s n)
       (none-iff (λ c. eqb (from img c) n && blocked_at img s c) (channels img)
       (λ c. nand-iff (eqb (from img c) n) (blocked_at img s c) (eq_iff (from img c) n) rfl)))
 
 module _ (img : List ℕ) (w : ℕ) (s : State) (c : ℕ) (h : c < channels img) where
   -- a node that fires finds each of its inputs ready,
-  pub fires_ready : fires img w s (to img c) ≡ true → (input_at img s c).valid ≡ true
+  pub fires_ready : fires img w s (to img c) ≡ true → is_some (input_at img s c) ≡ true
   fires_ready f = ((fires-iff img w s (to img c)).0 f).0.1 c h refl
 
   -- and so a token on it,
@@ -112,7 +111,7 @@ module _ (img : List ℕ) (w : ℕ) (s : State) (c : ℕ) (h : c < channels img)
   fires-holds f =
       let ch = channel_in img s c in
       let e = fires_ready f in
-      valid_holds (tokens ch) (ap (λ (l : Link). l.valid) (oldest_first ch e) ∙ e)
+      valid_holds (tokens ch) (ap (λ (l : Link). is_some l) (oldest_first ch e) ∙ e)
 
   -- and none of its own tokens blocked
   pub fires-clear : fires img w s (from img c) ≡ true → blocked_at img s c ≡ false

@@ -1,6 +1,6 @@
 -- What the loops of a cycle hold, by the counter: what is known of the nodes from the channels below c, which of the nodes below n fire, and the
 -- state whose channels below c have moved.
-use Rattle.std.specs.Prelude.{Bool, false, not, ◌&&◌, List, [], ℕ, ◌/◌, ◌%◌, eqb, ℤ, pos, get_or, replicate}
+use Rattle.std.specs.Prelude.{is_some, unwrap_or, Bool, false, not, ◌&&◌, List, [], ℕ, ◌/◌, ◌%◌, eqb, ℤ, pos, get_or, replicate}
 use Rattle.laws.specs.Below.{any_below}
 use Rattle.laws.specs.Choice.{◌if◌else◌}
 use Rattle.laws.specs.Lists.{holds, padded}
@@ -28,10 +28,10 @@ kinds_below img n = record { at = padded 64 0 (table (kind img) n) }
 module _ (img : List ℕ) (s : State) where
   -- data validation: the nodes that an input of the channels below c is not ready for, and the values that are brought to the ports
   unfoldable pub starved_below : ℕ → List Bool
-  starved_below c = table (λ n. any_below (λ k. eqb (to img k) n && not (input_at img s k).valid) c) 64
+  starved_below c = table (λ n. any_below (λ k. eqb (to img k) n && not (is_some (input_at img s k))) c) 64
 
   unfoldable pub brought_below : ℕ → List ℤ
-  brought_below c = ports_below img (λ k. (input_at img s k).value) (pos 0) c
+  brought_below c = ports_below img (λ k. unwrap_or (input_at img s k) (pos 0)) (pos 0) c
 
   -- back pressure: the nodes that a channel below c blocks
   unfoldable pub blocked_below : ℕ → List Bool

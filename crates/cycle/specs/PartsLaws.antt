@@ -1,6 +1,6 @@
 -- Laws of the cycle's loops: one turn of each, and what they leave is the cycle. Assumes nothing.
-use Rattle.std.specs.Prelude.{Bool, true, ◌&&◌, ◌||◌, ◌≡◌, pos, drop, set}
-use Rattle.std.proofs.Math.Bool.{false, not}
+use Rattle.std.specs.Prelude.{is_some, unwrap_or, Bool, true, ◌&&◌, ◌||◌, ◌≡◌, pos, drop, set}
+use Rattle.std.proofs.Math.Bool.{false, not, not-not}
 use mathlib.Core.List.{List, [], ◌++◌}
 use Rattle.std.proofs.Math.Path.{refl, sym, ap}
 use Rattle.std.proofs.Common.{◌∙◌, arith}
@@ -9,6 +9,7 @@ use Rattle.std.proofs.Math.Nat.{add-zero}
 use Rattle.std.proofs.Math.Dec.{eqb}
 use Rattle.std.proofs.Math.IntN.{ℤ}
 use Rattle.std.proofs.Math.ListN.{length, get_or, take, get_or-eq_default}
+use Rattle.std.specs.Bool.{then_some}
 use Rattle.laws.specs.Below.{any_below, pick_below}
 use Rattle.laws.specs.BelowLaws.{all_any, any_same}
 use Rattle.laws.specs.Choice.{◌if◌else◌}
@@ -25,9 +26,8 @@ use Rattle.netlist.specs.Accepted.{Accepted}
 use Rattle.netlist.specs.AcceptedLaws.{accepted-wired}
 use Rattle.pearl.specs.Next.{next_value}
 use Rattle.node.specs.Node.{port_value, next_of}
-use Rattle.relay.specs.declared.Link.{Link}
-use Rattle.relay.specs.Link.{token, link_of, passing}
-use Rattle.relay.specs.LinkLaws.{token_of, passing_few}
+use Rattle.relay.specs.Link.{Link, token, link_of, passing}
+use Rattle.relay.specs.LinkLaws.{token_if, token_of, passing_few}
 use Rattle.relay.specs.Station.{held, station_of, place_after}
 use Rattle.relay.specs.Row.{stopped, link_at}
 use Rattle.relay.specs.RowCycle.{no_station}
@@ -54,9 +54,9 @@ module _ (img : List ℕ) (s : State) (c : ℕ) where
   unfoldable pub link_in : ℕ → List ℤ
   link_in j = link_at (channel_in img s c).source (channel_in img s c).row j
 
-  pub link_source : token (record { valid = eqb (mark_at s c) 1; value = value_at s (from img c) }) ≡ link_in 0
-  unfolding token channel_in link_at link_in
-  link_source = refl
+  pub link_source : token (then_some (eqb (mark_at s c) 1) (value_at s (from img c))) ≡ link_in 0
+  unfolding channel_in link_at link_in
+  link_source = token_if (eqb (mark_at s c) 1) (value_at s (from img c))
 
   pub link_above : (j : ℕ) → j < stations img c → token (link_of (held (station_at s c j))) ≡ link_in (suc j)
   unfolding link_at link_in
@@ -141,11 +141,11 @@ module _ (img : List ℕ) (s : State) (fit : Fitting img s) (c : ℕ) (h : c < c
 -- ---- the turns of the loop that scans the channels
 module _ (img : List ℕ) (s : State) (c : ℕ) where
   pub starved_turn :
-      to img c < 64 → (ready : Bool) → ready ≡ (input_at img s c).valid
-      → set (starved_below img s c) (to img c) (get_or (starved_below img s c) (to img c) false || not ready) ≡ starved_below img s (suc c)
+      to img c < 64 → (void : Bool) → is_some (input_at img s c) ≡ not void
+      → set (starved_below img s c) (to img c) (get_or (starved_below img s c) (to img c) false || void) ≡ starved_below img s (suc c)
   unfolding starved_below any_below
-  starved_turn h ready e =
-      rw e (table_raise (λ n. any_below (λ k. eqb (to img k) n && not (input_at img s k).valid) c) 64 (to img c) (not (input_at img s c).valid) h)
+  starved_turn h void e =
+      rw (e, not-not) (table_raise (λ n. any_below (λ k. eqb (to img k) n && not (is_some (input_at img s k))) c) 64 (to img c) void h)
 
   pub blocked_turn :
       from img c < 64 → (held_up : Bool) → held_up ≡ blocked_at img s c
@@ -154,7 +154,7 @@ module _ (img : List ℕ) (s : State) (c : ℕ) where
   blocked_turn h held_up e = rw e (table_raise (λ n. any_below (λ k. eqb (from img k) n && blocked_at img s k) c) 64 (from img c) (blocked_at img s c) h)
 
   pub brought_turn :
-      (value : ℤ) → value ≡ (input_at img s c).value
+      (value : ℤ) → value ≡ unwrap_or (input_at img s c) (pos 0)
       → set (brought_below img s c) (3 * to img c + port img c) value ≡ brought_below img s (suc c)
   unfolding brought_below ports_below
   brought_turn value e = rw e
@@ -174,11 +174,11 @@ not-asked true v = refl
 not-asked false v = refl
 
 module _ (img : List ℕ) (s : State) (n : ℕ) where
-  ready_all : not (any_below (λ k. eqb (to img k) n && not (input_at img s k).valid) (channels img)) ≡ all_ready img s n
+  ready_all : not (any_below (λ k. eqb (to img k) n && not (is_some (input_at img s k))) (channels img)) ≡ all_ready img s n
   unfolding all_ready
   ready_all =
-      sym (all_any (λ k. (input_at img s k).valid if eqb (to img k) n else true) (channels img)
-      ∙ ap not (any_same _ _ (channels img) (λ k l. not-asked (eqb (to img k) n) (input_at img s k).valid)))
+      sym (all_any (λ k. is_some (input_at img s k) if eqb (to img k) n else true) (channels img)
+      ∙ ap not (any_same _ _ (channels img) (λ k l. not-asked (eqb (to img k) n) (is_some (input_at img s k)))))
 
   pub gate_turn :
       (w : ℕ) → n < 64
@@ -187,7 +187,7 @@ module _ (img : List ℕ) (s : State) (n : ℕ) where
   unfolding starved_below blocked_below fires any_blocked
   gate_turn w h =
       rw (
-        table_at (λ n. any_below (λ k. eqb (to img k) n && not (input_at img s k).valid) (channels img)) 64 n false h,
+        table_at (λ n. any_below (λ k. eqb (to img k) n && not (is_some (input_at img s k))) (channels img)) 64 n false h,
         table_at (λ n. any_below (λ k. eqb (from img k) n && blocked_at img s k) (channels img)) 64 n false h,
         ready_all,
       )
@@ -197,10 +197,10 @@ module _ (img : List ℕ) (s : State) (n : ℕ) where
       Accepted img → n < nodes img → (v : ℤ)
       → let brought = brought_below img s (channels img) in
       next_value (kind img n) v (get_or brought (3 * n) (pos 0)) (get_or brought (3 * n + 1) (pos 0)) (get_or brought (3 * n + 2) (pos 0)) ≡
-      next_of img (λ c. (input_at img s c).value) n v
+      next_of img (λ c. unwrap_or (input_at img s c) (pos 0)) n v
   unfolding brought_below next_of port_value
   taken_turn a h v =
-      let f : ℕ → ℤ = λ c. (input_at img s c).value in
+      let f : ℕ → ℤ = λ c. unwrap_or (input_at img s c) (pos 0) in
       let ports = ports_below img f (pos 0) (channels img) in
       let at : (p : ℕ) → p < 3 → get_or ports (3 * n + p) (pos 0) ≡ pick_below (feeds img n p) f (pos 0) (channels img) =
       λ p l. ports_at img f (pos 0) (channels img) (accepted-wired img a) n p (omega (arith, a.few_nodes)) l in

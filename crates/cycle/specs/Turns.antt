@@ -1,5 +1,5 @@
 -- One turn of each loop of the cycle, on what the code read and what its calls answered. Assumes nothing.
-use Rattle.std.specs.Prelude.{Bool, true, not, ◌&&◌, ◌||◌, List, [], ◌∷◌, ◌++◌, ◌⊎◌, ◌≡◌, ℤ, pos, get_or, set, take, replicate}
+use Rattle.std.specs.Prelude.{is_some, unwrap_or, Bool, true, not, ◌&&◌, ◌||◌, List, [], ◌∷◌, ◌++◌, ◌⊎◌, ◌≡◌, ℤ, pos, get_or, set, take, replicate}
 use Rattle.std.proofs.Math.Bool.{false}
 use Rattle.std.proofs.Math.Logic.{⊎_elim}
 use Rattle.std.proofs.Math.Path.{refl, sym, ap}
@@ -10,6 +10,7 @@ use native.Mathlib.Omega.{arith}
 use Rattle.std.proofs.Math.Dec.{eqb}
 use Rattle.std.proofs.Math.ListN.{length, length-replicate}
 use Rattle.std.proofs.lemmas.List.{get_or-replicate}
+use Rattle.std.specs.Bool.{then_some}
 use Rattle.laws.specs.Cases.{or_left, or_right}
 use Rattle.laws.specs.Choice.{◌if◌else◌}
 use Rattle.laws.specs.Lists.{holds_two}
@@ -19,9 +20,8 @@ use Rattle.netlist.specs.declared.Channel.{Channel as Wire}
 use Rattle.netlist.specs.Image.{nodes, channels, from, to, stations, depth}
 use Rattle.netlist.specs.Accepted.{Accepted}
 use Rattle.netlist.specs.Readers.{channel_at}
-use Rattle.relay.specs.declared.Link.{Link}
 use Rattle.relay.specs.declared.Station.{Station}
-use Rattle.relay.specs.Link.{token, link_of, passing, reading}
+use Rattle.relay.specs.Link.{Link, token, link_of, passing, reading}
 use Rattle.relay.specs.LinkLaws.{reading-token}
 use Rattle.relay.specs.Station.{held, station_of, place_after}
 use Rattle.relay.specs.RowCycle.{no_station}
@@ -63,11 +63,12 @@ module _ (img : List ℕ) (a : Accepted img) (s : State) (fit : Fitting img s) (
     (wire : Wire) (e : wire ≡ channel_at img c) where
   -- link 0
   pub source_read :
-      (v : ℤ) → v ≡ (get_or s.nodes wire.from no_node).value
-      → token (record { valid = eqb (get_or s.pending c 0) 1; value = v }) ≡ link_in img s c 0
+      (link : Link) (v : ℤ) → link ≡ then_some (eqb (get_or s.pending c 0) 1) v → v ≡ (get_or s.nodes wire.from no_node).value
+      → token link ≡ link_in img s c 0
   unfolding channel_at mark_at node_at
-  source_read v q =
-      ap (λ (x : ℤ). token (record { valid = eqb (get_or s.pending c 0) 1; value = x }))
+  source_read link v p q =
+      ap token p
+      ∙ ap (λ (x : ℤ). token (then_some (eqb (get_or s.pending c 0) 1) x))
       (q ∙ ap (λ (w : Wire). (get_or s.nodes w.from no_node).value) e)
       ∙ link_source img s c
 
@@ -124,14 +125,14 @@ module _ (img : List ℕ) (a : Accepted img) (s : State) (fit : Fitting img s) (
 
   -- ---- the scan: one more channel
   pub starved_read :
-      (starved : List Bool) → starved ≡ starved_below img s c → (ready : Bool) → ready ≡ (input_at img s c).valid
-      → set starved wire.to (get_or starved wire.to false || not ready) ≡ starved_below img s (c + 1)
+      (starved : List Bool) → starved ≡ starved_below img s c → (void : Bool) → is_some (input_at img s c) ≡ not void
+      → set starved wire.to (get_or starved wire.to false || void) ≡ starved_below img s (c + 1)
   unfolding channel_at
-  starved_read starved q ready r =
-      rw (add-one, e, q) (starved_turn img s c (omega (arith, a.wires c h, a.few_nodes)) ready r)
+  starved_read starved q void r =
+      rw (add-one, e, q) (starved_turn img s c (omega (arith, a.wires c h, a.few_nodes)) void r)
 
   pub brought_read :
-      (brought : List ℤ) → brought ≡ brought_below img s c → (value : ℤ) → value ≡ (input_at img s c).value
+      (brought : List ℤ) → brought ≡ brought_below img s c → (value : ℤ) → value ≡ unwrap_or (input_at img s c) (pos 0)
       → set brought (3 * wire.to + wire.port) value ≡ brought_below img s (c + 1)
   unfolding channel_at
   brought_read brought q value r = rw (add-one, e, q) (brought_turn img s c value r)
@@ -206,11 +207,12 @@ module _ (img : List ℕ) (a : Accepted img) (s : State) (fit : Fitting img s) (
 
     pub queue_idle :
         (link : Link) (stop fired : Bool) → token link ≡ arriving (channel_in img s c) → stop ≡ stop_below (depth img c) (channel_in img s c)
-        → fired ≡ fires img w s (to img c) → fired || (link.valid && not stop) ≡ false → queue_next img w s c ≡ get_or s.queues c no_queue
-    queue_idle link stop fired p q r z =
+        → fired ≡ fires img w s (to img c) → (valid : Bool) → valid ≡ is_some link → fired || (valid && not stop) ≡ false
+        → queue_next img w s c ≡ get_or s.queues c no_queue
+    queue_idle link stop fired p q r valid v z =
         sym (queue_read link stop fired p q r)
-        ∙ after_idle (get_or s.queues c no_queue) link stop fired (or_left fired (link.valid && not stop) z)
-        (or_right fired (link.valid && not stop) z)
+        ∙ after_idle (get_or s.queues c no_queue) link stop fired (or_left fired (valid && not stop) z)
+        (rw v at (or_right fired (valid && not stop) z))
 
     -- the channel is done
     pub channel_turn :

@@ -14,8 +14,7 @@ ghost use Rattle.state.specs.Fitting.{Fitting};
 ghost use Rattle.cycle.specs.Parts.{wires_below, kinds_below};
 
 use netlist::Channel;
-use relay::{Link, Station};
-use shell::Queue;
+use relay::Reading;
 use state::{Node, State};
 
 // Bit n of a stall word.
@@ -24,13 +23,6 @@ fn stalls(word: u64, n: usize) -> bool
     ensures { result ≡ stalled word n }
 {
     (word >> n) % 2 == 1
-}
-
-// A pending mark.
-fn mark(pending: bool) -> u8
-    ensures { result ≡ (1 if pending else 0) }
-{
-    if pending { 1 } else { 0 }
 }
 
 // A node that fires, from what its ports bring.
@@ -71,8 +63,7 @@ fn wires_of(image: &[u8]) -> Wires
     };
     let mut wires = Wires { at: [none; 96] };
     for c in 0..channels {
-        let channel = netlist::channel_at(image, c);
-        wires.at[c as usize] = channel;
+        wires.at[c as usize] = netlist::channel_at(image, c);
     }
     wires
 }
@@ -85,9 +76,7 @@ fn kinds_of(image: &[u8]) -> Kinds
     let nodes = netlist::nodes(image);
     let mut kinds = Kinds { at: [0; 64] };
     for n in 0..nodes {
-        let core = netlist::core_at(image, n);
-        let kind = core.kind;
-        kinds.at[n as usize] = kind;
+        kinds.at[n as usize] = netlist::core_at(image, n).kind;
     }
     kinds
 }
@@ -106,9 +95,7 @@ pub fn cycles(image: &[u8], state: State, words: &[u64]) -> State
     let wires = wires_of(image);
     let kinds = kinds_of(image);
     let mut s = state;
-    let mut t: usize = 0;
-    while t < words.len() {
-        let word = words[t];
+    for &word in words {
         let old = s;
         // Data validation, and back pressure: which nodes an input is not ready for, what the inputs
         // bring, and which nodes are blocked.
@@ -123,21 +110,15 @@ pub fn cycles(image: &[u8], state: State, words: &[u64]) -> State
             let node = old.nodes[from];
             let queue = old.queues[c];
             let pending = old.pending[c] == 1;
-            let mut link = Link {
-                valid: pending,
-                value: node.value,
-            };
+            let mut link = pending.then_some(node.value);
             let mut stop = queue.full(channel.depth);
             if 0 < length {
-                let last = old.stations[8 * c + (length - 1)];
-                link = last.link();
-                let first = old.stations[8 * c];
-                stop = first.full();
+                link = old.stations[8 * c + (length - 1)].link();
+                stop = old.stations[8 * c].full();
             }
             let input = queue.input(link);
-            let value = input.value;
-            brought[3 * to + channel.port as usize] = value;
-            starved[to] = starved[to] | !input.valid;
+            brought[3 * to + channel.port as usize] = input.unwrap_or(0);
+            starved[to] = starved[to] | input.is_none();
             blocked[from] = blocked[from] | shell::blocked(pending, stop);
         }
         // Clock gating: which nodes fire.
@@ -145,14 +126,13 @@ pub fn cycles(image: &[u8], state: State, words: &[u64]) -> State
         for n in 0..nodes {
             if !stalls(word, n) & !starved[n] & !blocked[n] {
                 let node = old.nodes[n];
-                let next = fired(
+                s.nodes[n] = fired(
                     node,
                     kinds.at[n],
                     brought[3 * n],
                     brought[3 * n + 1],
                     brought[3 * n + 2],
                 );
-                s.nodes[n] = next;
                 fires[n] = true;
             }
         }
@@ -166,36 +146,27 @@ pub fn cycles(image: &[u8], state: State, words: &[u64]) -> State
             let queue = old.queues[c];
             let pending = old.pending[c] == 1;
             let full = queue.full(channel.depth);
-            let mut link = Link {
-                valid: pending,
-                value: node.value,
-            };
+            let mut link = pending.then_some(node.value);
             let mut stop = full;
             if 0 < length {
-                let first = old.stations[8 * c];
-                stop = first.full();
+                stop = old.stations[8 * c].full();
             }
             for j in 0..length {
                 let station = old.stations[8 * c + j];
                 let mut below = full;
                 if j + 1 < length {
-                    let following = old.stations[8 * c + (j + 1)];
-                    below = following.full();
+                    below = old.stations[8 * c + (j + 1)].full();
                 }
-                let next = station.after(link, below);
-                s.stations[8 * c + j] = next;
+                s.stations[8 * c + j] = station.after(link, below);
                 link = station.link();
             }
             let takes = fires[to];
-            if takes | (link.valid & !full) {
-                let next = queue.after(link, full, takes);
-                s.queues[c] = next;
+            if takes | (link.is_some() & !full) {
+                s.queues[c] = queue.after(link, full, takes);
             }
-            let next = mark(shell::pending_after(pending, stop, fires[from]));
-            s.pending[c] = next;
+            s.pending[c] = u8::from(shell::pending_after(pending, stop, fires[from]));
         }
         s.cycles = old.cycles + 1;
-        t += 1;
     }
     s
 }
@@ -216,18 +187,12 @@ pub fn show(image: &[u8], state: State, letters: &mut [u8], values: &mut [i32])
         let node = state.nodes[channel.from as usize];
         let queue = state.queues[at];
         let pending = state.pending[at] == 1;
-        let mut link = Link {
-            valid: pending,
-            value: node.value,
-        };
+        let mut link = pending.then_some(node.value);
         if 0 < length {
-            let last = state.stations[8 * at + (length - 1)];
-            link = last.link();
+            link = state.stations[8 * at + (length - 1)].link();
         }
-        let seen = link.reading(queue.full(channel.depth));
-        let letter = seen.letter;
-        let value = seen.value;
-        letters[at] = letter;
-        values[at] = value;
+        let seen = Reading::of(link, queue.full(channel.depth));
+        letters[at] = seen.letter;
+        values[at] = seen.value;
     }
 }

@@ -8,8 +8,8 @@ use std::io;
 
 fn judge(rt: &impl Print, image: &[u8]) -> io::Result<()> {
     match netlist::judge(image) {
-        0 => println!(rt; "accepted"),
-        number => println!(rt; "refused {number}"),
+        Ok(()) => println!(rt; "accepted"),
+        Err(refusal) => println!(rt; "{refusal}"),
     }
 }
 

@@ -103,8 +103,8 @@ fn cut(image: &Vec<u8>, length: usize) -> Result<Vec<u8>, AllocError> {
 
 fn judge(rt: &impl Print, label: &str, image: &[u8]) -> io::Result<()> {
     match netlist::judge(image) {
-        0 => println!(rt; "{label}: accepted"),
-        number => println!(rt; "{label}: refused {number}"),
+        Ok(()) => println!(rt; "{label}: accepted"),
+        Err(refusal) => println!(rt; "{label}: {refusal}"),
     }
 }
 

@@ -12,12 +12,12 @@ fn is_accepted(image: &mut [u8], turn: u32) -> bool {
     if let Some(parameter) = image.get_mut(66) {
         *parameter = (turn % 256) as u8;
     }
-    netlist::judge(image) == 0
+    netlist::judge(image).is_ok()
 }
 
 fn main(rt: HostRuntime) -> io::Result<()> {
     let mut image = [0u8; 803];
-    let input = input::read_to_end(&mut rt.stdin(), &mut image)?;
+    let input = input::read_to_end(&mut rt.stdin(), &mut image).unwrap_or_else(|unread| unread.before);
     let image = &mut image[..input.kept];
     let accepted = (0..TIMES).filter(|&turn| is_accepted(image, turn)).count();
     println!(rt; "{accepted} accepted")

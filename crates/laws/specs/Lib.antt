@@ -11,6 +11,7 @@ pub mod Lists
 pub mod ListsLaws
 pub mod Table
 pub mod TableLaws
+pub mod ArrayLaws
 pub mod Stretch
 pub mod StretchLaws
 pub mod Signed

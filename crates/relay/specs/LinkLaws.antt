@@ -1,5 +1,6 @@
 -- Laws of links. Assumes nothing.
 use Rattle.std.specs.Prelude.{None, Some, is_some, Bool, true, false, not, ◌&&◌, List, [], ◌∷◌, ◌++◌, ◌≡◌, refl, ℕ, zero, suc, ◌<◌, ◌≤◌, eqb, ltb, ℤ, pos, length, get_or, take}
+use Rattle.std.specs.Bool.{then_some}
 use Rattle.std.proofs.lemmas.Bool.{false≢true}
 use Rattle.std.proofs.Common.{append-nil, sym, ap, not-suc-le-zero, arith, lt-ltb}
 use Rattle.laws.specs.Lists.{holds, one_if}
@@ -14,6 +15,11 @@ token_few (Some x) = omega arith
 pub link_own : (link : Link) → link ≡ link_of (token link)
 link_own None = refl
 link_own (Some x) = refl
+
+-- a flag with a value beside it is a link
+pub token_if : (valid : Bool) (x : ℤ) → token (then_some valid x) ≡ one_if valid x
+token_if true x = refl
+token_if false x = refl
 
 -- the link that leaves a place shows its oldest token
 pub token_of : (place : List ℤ) → token (link_of place) ≡ take 1 place
@@ -57,11 +63,15 @@ passing_few link true h = omega arith
 passing_few link false h = h
 
 -- a token passes exactly when the link is valid and not stopped
+pub passing_flag : (valid stop : Bool) (x : ℤ) → holds (passing (one_if valid x) stop) ≡ valid && not stop
+passing_flag true true x = refl
+passing_flag true false x = refl
+passing_flag false true x = refl
+passing_flag false false x = refl
+
 pub passing-holds : (link : Link) (stop : Bool) → holds (passing (token link) stop) ≡ is_some link && not stop
-passing-holds None true = refl
-passing-holds None false = refl
-passing-holds (Some x) true = refl
-passing-holds (Some x) false = refl
+passing-holds None stop = passing_flag false stop (pos 0)
+passing-holds (Some x) stop = passing_flag true stop x
 
 -- a reading tells no more than the token,
 pub reading-token : (link : Link) (stop : Bool) → reading link stop ≡ reading (link_of (token link)) stop

@@ -8,8 +8,8 @@ ghost use Rattle.shell.specs.Channel.{blocked, pending_after};
 
 use relay::Link;
 
-// A queue: its tokens from the first place on, oldest first. A place that holds none is 0. No vector: the
-// project's rules name this form, an array of eight and a count, as a station's of two.
+// A queue: its tokens from the first place on, oldest first. A place that holds none is 0.
+// The project's rules name this form: an array of eight and a count, as a station's of two.
 #[derive(Clone, Copy)]
 pub struct Queue {
     pub tokens: [i32; 8],
@@ -69,7 +69,6 @@ impl Queue {
     }
 
     // It without its oldest token.
-
     fn popped(self) -> Self
         requires { 0 < self.count }
         ensures { result ≡ popped self }

@@ -3,6 +3,7 @@
 use Rattle.std.specs.Prelude.{List, ◌++◌, ◌≡◌, ℕ, ltb, length, take, drop, Result, Ok, Err}
 use Rattle.io.specs.Counts.{IsPrefixLen}
 use Rattle.laws.specs.Choice.{◌if◌else◌}
+use Rattle.refusal.specs.Number.{number}
 use Rattle.refusal.specs.declared.Refusal.{Refusal}
 use Rattle.refusal.specs.declared.Refusal.TheVariants.{Room}
 
@@ -18,6 +19,15 @@ module _ (text out : List ℕ) where
 pub record WriteDone (text out : List ℕ) (answer : Result ℕ Refusal) (left : List ℕ) : Type 0 where
   pub answered : answer ≡ written_answer text out
   pub over : left ≡ written_over text out
+
+-- what an answer tells: the number of its refusal, 0 where there is none, and how long the text is, 0 where nothing was written
+pub record WriteTold : Type 0 where
+  pub number : ℕ
+  pub length : ℕ
+
+abbrev pub write_told : Result ℕ Refusal → WriteTold
+write_told (Ok length) = record { number = 0; length = length }
+write_told (Err refusal) = record { number = number refusal; length = 0 }
 
 -- the first `count` bytes of a slice are the text
 pub record Begins (bytes : List ℕ) (count : ℕ) (text : List ℕ) : Type 0 where

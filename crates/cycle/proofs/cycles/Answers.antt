@@ -1,7 +1,7 @@
 -- `cycle::cycles` meets its contract. The invariants: the cycles of the first t words are made (loop), the channels below c are scanned
 -- (loop2), the nodes below n are gated (loop3), the channels below c have moved (loop4), and of channel c's stations those below j (loop5).
 -- Assumes nothing.
-use mathlib.Core.Bool.{Bool}
+use mathlib.Core.Bool.{Bool, true, false}
 use mathlib.Core.List.{List}
 use mathlib.Core.Logic.{inl, inr}
 use mathlib.Core.Path.{◌≡◌, refl, sym, ap, ◌∙◌}
@@ -24,8 +24,9 @@ use mir.Facts.{to_z-of_z}
 use Rattle.laws.specs.Below.{any_below}
 use Rattle.laws.specs.Table.{table, table_over}
 use Rattle.netlist.specs.Ports.{ports_below}
-use Rattle.relay.specs.declared.Link.{Link}
-use Rattle.relay.specs.Link.{token}
+use Rattle.std.specs.Int.{from_bool}
+use Rattle.std.specs.Option.{is_some, unwrap_or}
+use Rattle.relay.specs.Link.{Link, token}
 use Rattle.relay.specs.Station.{held}
 use Rattle.relay.specs.RowCycle.{no_station}
 use Rattle.shell.specs.Channel.{arriving}
@@ -40,7 +41,7 @@ use Rattle.cycle.specs.Turns.{fires-read, fired-read, gated_turn, cycle_turn, af
 use Rattle.cycle.specs.KeptLaws.{fitting-next}
 use Rattle.cycle.specs.declared.Wires.{Wires}
 use Rattle.cycle.specs.Parts.{wires_below}
-use Rattle.cycle.proofs.cycles.Goals.{In-loop-c, In-loop-c-2, then-length-gt0, else-length-gt0, then-stalls-starved, else-stalls-starved, then-j-length, else-j-length, then-length-gt0-2, else-length-gt0-2, then-takes-link, else-takes-link}
+use Rattle.cycle.proofs.cycles.Goals.{In-loop-c, In-loop-c-2, then-length-gt0, else-length-gt0, then-stalls-starved, else-stalls-starved, then-j-length, else-j-length, then-length-gt0-2, else-length-gt0-2, then-takes-is_some, else-takes-is_some}
 use Rattle.cycle.proofs.cycles.Goals as goal
 
 -- what is read of channel i, which is one of the image's: its number and its fields are indices
@@ -65,14 +66,19 @@ move_within c =
     within c.args.image.now c.requires.accepted c.wires_of-wires.result c.wires_of-wires.ensures c.loop-c-2.c
     (omega (arith, c.channels-channels.ensures))
 
+-- a pending mark
+byte : (b : Bool) → from_bool b ≡ (1 if b else 0)
+byte true = refl
+byte false = refl
+
 -- the first place of a row
 first_place : (s : State) (i : ℕ) → holds_two (held (get_or s.stations (8 * i) no_station)) ≡ holds_two
     (held (get_or s.stations (8 * i + 0) no_station))
 first_place s i = ap (λ (n : ℕ). holds_two (held (get_or s.stations n no_station))) (sym (add-zero (8 * i)))
 
-pub loop-t-init : goal.loop-t-init
+pub loop-word-init : goal.loop-word-init
 unfolding after
-loop-t-init c = record { done = omega arith; state = refl; fits = c.requires.fitting; count = omega (arith, c.requires.words_bound) }
+loop-word-init c = record { done = omega arith; state = refl; fits = c.requires.fitting; count = omega (arith, c.requires.words_bound) }
 
 pub loop-c-init : goal.loop-c-init
 unfolding starved_below brought_below blocked_below any_below ports_below table
@@ -103,17 +109,17 @@ pub loop-c-preserved : goal.loop-c-preserved
 loop-c-preserved c =
     let img = c.args.image.now in
     let net = c.requires.accepted in
-    let s = c.loop-t.s in
-    let fit = c.loop-t.invariant.fits in
+    let s = c.loop-word.s in
+    let fit = c.loop-word.invariant.fits in
     let i = c.loop-c.c in
     let h : i < channels img = omega (arith, c.channels-channels.ensures) in
     let e = wire-read img i h c.wires_of-wires.result c.wires_of-wires.ensures in
     let inv = c.loop-c.invariant in
     let join = c.if-length-gt0 in
     let f : SFits w32 (get_or s.nodes (read_at c.wires_of-wires.result i).from no_node).value = search rules in
-    let g : SFits w32 c.input-input.result.value = search rules in
+    let g : SFits w32 c.unwrap_or.result = search rules in
     let link : token join.link ≡ arriving (channel_in img s i) =
-    arriving-read img net s fit i h _ e _ join.link (source_read img net s fit i h _ e _ (to_z-of_z f))
+    arriving-read img net s fit i h _ e _ join.link (source_read img net s fit i h _ e _ _ c.then_some-link.ensures (to_z-of_z f))
     (elim c.if-length-gt0.branch [ then-length-gt0 w ↦ inl (omega arith, w.link-is ∙ w.link-link.ensures) | else-length-gt0 w ↦ inr (omega arith, w.link-is) ]) in
     let stop : join.stop ≡ stop_in img s i 0 =
     stop_read img net s fit i h _ e 0 join.stop
@@ -124,8 +130,8 @@ loop-c-preserved c =
     let input : c.input-input.result ≡ input_at img s i =
     c.input-input.ensures ∙ input-read img net s fit i h _ e join.link link in (
       omega arith,
-      starved_read img net s fit i h _ e _ inv.1 _ (ap (λ (x : Link). x.valid) input),
-      brought_read img net s fit i h _ e _ inv.2 _ (to_z-of_z g ∙ ap (λ (x : Link). x.value) input),
+      starved_read img net s fit i h _ e _ inv.1 _ (sym (ap (λ (x : Link). is_some x) input) ∙ c.is_none.ensures),
+      brought_read img net s fit i h _ e _ inv.2 _ (to_z-of_z g ∙ c.unwrap_or.ensures ∙ ap (λ (x : Link). unwrap_or x (pos 0)) input),
       blocked-read img net s fit i h _ e _ inv.3 _ (c.blocked.ensures ∙ held-read img net s fit i h _ e join.stop stop),
     )
 
@@ -133,19 +139,19 @@ pub loop-n-init : goal.loop-n-init
 unfolding moved_below nodes_below fires_below table_over table
 loop-n-init c = (omega arith, refl, refl)
 
-pub fired-next-requires : goal.fired-next-requires
+pub fired-requires : goal.fired-requires
 unfolding node_at
-fired-next-requires c =
+fired-requires c =
     let there : c.loop-n.n < nodes c.args.image.now = omega (arith, c.nodes-nodes.ensures) in
-    omega (arith, c.loop-t.invariant.fits.fired c.loop-n.n there, c.loop-t.invariant.count)
+    omega (arith, c.loop-word.invariant.fits.fired c.loop-n.n there, c.loop-word.invariant.count)
 
 pub loop-n-preserved : goal.loop-n-preserved
 loop-n-preserved c =
     let img = c.args.image.now in
     let net = c.requires.accepted in
-    let s = c.loop-t.s in
-    let fit = c.loop-t.invariant.fits in
-    let w = get_or c.args.words.now c.loop-t.t 0 in
+    let s = c.loop-word.s in
+    let fit = c.loop-word.invariant.fits in
+    let w = get_or c.args.words.now c.loop-word.word-index 0 in
     let scan = c.loop-c in
     let l = c.loop-n in
     let n = l.n in
@@ -160,7 +166,7 @@ loop-n-preserved c =
     (elim c.if-stalls-starved.branch [
       | then-stalls-starved w' ↦
           let f = sym test ∙ w'.if-stalls-starved.true in
-          inl (f, (_, w'.fired-next.ensures ∙ fired-read img net s fit w n there f _ c.kinds_of-kinds.ensures scan.brought brought _ _ _ (to_z-of_z (told (at (3 * n)) w'.fired-arg-then-stalls-starved-1.given)) (to_z-of_z (told (at (3 * n + 1)) w'.fired-arg-then-stalls-starved-2-1.given)) (to_z-of_z (told (at (3 * n + 2)) w'.fired-arg-then-stalls-starved-3-1.given)), w'.s-is), w'.fires-is)
+          inl (f, (_, w'.fired.ensures ∙ fired-read img net s fit w n there f _ c.kinds_of-kinds.ensures scan.brought brought _ _ _ (to_z-of_z (told (at (3 * n)) w'.fired-arg-then-stalls-starved-1.given)) (to_z-of_z (told (at (3 * n + 1)) w'.fired-arg-then-stalls-starved-2-1.given)) (to_z-of_z (told (at (3 * n + 2)) w'.fired-arg-then-stalls-starved-3-1.given)), w'.s-is), w'.fires-is)
       | else-stalls-starved w' ↦ inr (sym test ∙ w'.if-stalls-starved.false, w'.s-is, w'.fires-is)
     ]) in
     (omega arith, r.0, r.1)
@@ -187,9 +193,9 @@ pub loop-j-init : goal.loop-j-init
 loop-j-init c =
     let img = c.args.image.now in
     let net = c.requires.accepted in
-    let s = c.loop-t.s in
-    let fit = c.loop-t.invariant.fits in
-    let w = get_or c.args.words.now c.loop-t.t 0 in
+    let s = c.loop-word.s in
+    let fit = c.loop-word.invariant.fits in
+    let w = get_or c.args.words.now c.loop-word.word-index 0 in
     let i = c.loop-c-2.c in
     let h : i < channels img = omega (arith, c.channels-channels.ensures) in
     let e = wire-read img i h c.wires_of-wires.result c.wires_of-wires.ensures in
@@ -197,16 +203,16 @@ loop-j-init c =
     let f : SFits w32 (get_or s.nodes (read_at c.wires_of-wires.result i).from no_node).value = search rules in (
       omega arith,
       l.invariant.1 ∙ ap (moved_below img w s s.cycles (nodes_below img w s c.nodes-nodes.result) i) (sym (add-zero (8 * i))),
-      source_read img net s fit i h _ e _ (to_z-of_z f),
+      source_read img net s fit i h _ e _ _ c.then_some-link-in-loop-c-2.ensures (to_z-of_z f),
     )
 
 pub loop-j-preserved : goal.loop-j-preserved
 loop-j-preserved c =
     let img = c.args.image.now in
     let net = c.requires.accepted in
-    let s = c.loop-t.s in
-    let fit = c.loop-t.invariant.fits in
-    let w = get_or c.args.words.now c.loop-t.t 0 in
+    let s = c.loop-word.s in
+    let fit = c.loop-word.invariant.fits in
+    let w = get_or c.args.words.now c.loop-word.word-index 0 in
     let i = c.loop-c-2.c in
     let h : i < channels img = omega (arith, c.channels-channels.ensures) in
     let e = wire-read img i h c.wires_of-wires.result c.wires_of-wires.ensures in
@@ -219,7 +225,7 @@ loop-j-preserved c =
       | then-j-length w' ↦ inl (omega arith, w'.below-is ∙ w'.full-below.ensures)
       | else-j-length w' ↦ inr (omega arith, w'.below-is ∙ c.full-full.ensures ∙ full-read img net s fit i h _ e)
     ]) in
-    let next = c.after-next.ensures
+    let next = c.after.ensures
     ∙ station-read img net s fit i h _ e w l.j inside l.link join.below l.invariant.2 (rw add-one at stop) in (
       omega arith,
       row_turn img net s fit i h _ e w s.cycles (nodes_below img w s c.nodes-nodes.result) l.j inside l.s l.invariant.1 _ next,
@@ -230,9 +236,9 @@ pub loop-c-2-preserved : goal.loop-c-2-preserved
 loop-c-2-preserved c =
     let img = c.args.image.now in
     let net = c.requires.accepted in
-    let s = c.loop-t.s in
-    let fit = c.loop-t.invariant.fits in
-    let w = get_or c.args.words.now c.loop-t.t 0 in
+    let s = c.loop-word.s in
+    let fit = c.loop-word.invariant.fits in
+    let w = get_or c.args.words.now c.loop-word.word-index 0 in
     let i = c.loop-c-2.c in
     let h : i < channels img = omega (arith, c.channels-channels.ensures) in
     let e = wire-read img i h c.wires_of-wires.result c.wires_of-wires.ensures in
@@ -250,28 +256,28 @@ loop-c-2-preserved c =
       | else-length-gt0-2 w' ↦ inr (omega arith, w'.stop-is ∙ full)
     ]) in
     let ns = nodes_below img w s c.nodes-nodes.result in
-    let join = c.if-takes-link in (
+    let join = c.if-takes-is_some in (
       omega arith,
       channel_turn img net s fit i h _ e w s.cycles ns l.s join.s
           (l.invariant.1 ∙ ap (λ (j : ℕ). moved_below img w s s.cycles ns i (8 * i + j)) end)
-          (elim c.if-takes-link.branch [
-            | then-takes-link w' ↦ inl (_, w'.after-next-then-takes-link.ensures ∙ queue_read img net s fit i h _ e w l.link _ _ link full ends.0, w'.s-is)
-            | else-takes-link w' ↦ inr (w'.s-is, queue_idle img net s fit i h _ e w l.link _ _ link full ends.0 w'.if-takes-link.false)
+          (elim c.if-takes-is_some.branch [
+            | then-takes-is_some w' ↦ inl (_, w'.after-then-takes-is_some.ensures ∙ queue_read img net s fit i h _ e w l.link _ _ link full ends.0, w'.s-is)
+            | else-takes-is_some w' ↦ inr (w'.s-is, queue_idle img net s fit i h _ e w l.link _ _ link full ends.0 _ c.is_some.ensures w'.if-takes-is_some.false)
           ])
           _
-          (c.mark-next.ensures ∙ ap (λ (b : Bool). 1 if b else 0) c.pending_after.ensures
+          (c.from.ensures ∙ byte c.pending_after.result ∙ ap (λ (b : Bool). 1 if b else 0) c.pending_after.ensures
           ∙ mark_read img net s fit i h _ e w _ _ stop ends.1),
     )
 
-pub loop-t-preserved : goal.loop-t-preserved
-loop-t-preserved c =
+pub loop-word-preserved : goal.loop-word-preserved
+loop-word-preserved c =
     let img = c.args.image.now in
-    let s = c.loop-t.s in
-    let made = c.loop-t.invariant in
-    let w = get_or c.args.words.now c.loop-t.t 0 in
+    let s = c.loop-word.s in
+    let made = c.loop-word.invariant in
+    let w = get_or c.args.words.now c.loop-word.word-index 0 in
     let a = c.args in
     let words = a.words.now in
-    let t = c.loop-t.t in
+    let t = c.loop-word.word-index in
     let l = c.loop-c-2 in
     let all : l.c ≡ channels img = omega (arith, c.channels-channels.ensures) in
     let moved = l.invariant.1

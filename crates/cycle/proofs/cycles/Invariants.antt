@@ -1,5 +1,5 @@
 use mathlib.Core.Path.{◌≡◌}
-use Prim.Native.Nat.{ℕ, ◌≤◌, ◌+◌, ◌*◌, ◌-◌}
+use Prim.Native.Nat.{ℕ, ◌≤◌, ◌+◌, ◌*◌}
 use mathlib.Core.List.{List}
 use lib.ListN.{length, take}
 use Rattle.relay.specs.Link.{token}
@@ -33,8 +33,5 @@ abbrev pub invariant-loop-c-2 : goal.invariant-loop-c-2
 invariant-loop-c-2 l =
     (l.c ≤ l.channels) × (l.s ≡ moved_below l.image l.word l.old l.old.cycles (nodes_below l.image l.word l.old l.nodes) l.c (8 * l.c))
 
-abbrev pub invariant-loop-t : goal.invariant-loop-t
-invariant-loop-t l = Made l.image l.words l.initial.s l.s l.t
-
-abbrev pub decreases-loop-t : goal.decreases-loop-t
-decreases-loop-t l = length l.words - l.t
+abbrev pub invariant-loop-word : goal.invariant-loop-word
+invariant-loop-word l = Made l.image l.words l.initial.s l.s l.word-index

@@ -25,6 +25,6 @@ loop-n-preserved c = let img = c.args.image.now in
     let h : c.loop-n.n < 64 = omega (arith, few (goal.at.loop-n-preserved c).After-nodes-nodes) in (
       omega arith,
       rw add-one
-          (kinds_turn img c.loop-n.n h c.loop-n.kinds c.loop-n.invariant.1 c.core_at-core.result.kind
-          (ap (λ (x : Core). x.kind) c.core_at-core.ensures)),
+          (kinds_turn img c.loop-n.n h c.loop-n.kinds c.loop-n.invariant.1 c.core_at.result.kind
+          (ap (λ (x : Core). x.kind) c.core_at.ensures)),
     )

@@ -20,4 +20,4 @@ loop-c-init c = (omega arith, refl)
 pub loop-c-preserved : goal.loop-c-preserved
 loop-c-preserved c = let img = c.args.image.now in
     let h : c.loop-c.c < 96 = omega (arith, few (goal.at.loop-c-preserved c).After-channels-channels) in
-    (omega arith, rw add-one (wires_turn img c.loop-c.c h c.loop-c.wires c.loop-c.invariant.1 c.channel_at-channel.result c.channel_at-channel.ensures))
+    (omega arith, rw add-one (wires_turn img c.loop-c.c h c.loop-c.wires c.loop-c.invariant.1 c.channel_at.result c.channel_at.ensures))

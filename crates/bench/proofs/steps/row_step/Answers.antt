@@ -1,6 +1,7 @@
 -- `bench::steps::row_step` meets its contract. Assumes nothing.
 use Rattle.std.proofs.Common.{◌≡◌, sym, ap, ◌∙◌, ℤ, length, rules}
 use Rattle.std.proofs.Math.Facts.{to_z-of_z}
+use Rattle.std.specs.Bool.{then_some}
 use Rattle.bench.proofs.BenchLaws.{row-none, row_refused, row_worked}
 use Rattle.bench.proofs.steps.row_step.Goals as goal
 
@@ -21,6 +22,6 @@ pub returns : goal.returns
 returns c =
     let a = c.args in
     let long : length a.row.stations ≡ 8 = search rules in
-    rw c.reply-answer.ensures
+    rw c.reply.ensures
     (row_worked a.row long a.n a.valid a.value a.stop c.if-n.false (sym c.row_fits.ensures ∙ c.if-not-row_fits.false) _
-    (ap (λ (v : ℤ). record { valid = a.valid; value = v }) (to_z-of_z c.ranges.value)) c.cycle-cycle.result c.cycle-cycle.ensures)
+    (c.then_some.ensures ∙ ap (λ (v : ℤ). then_some a.valid v) (to_z-of_z c.ranges.value)) c.cycle-cycle.result c.cycle-cycle.ensures)

@@ -1,6 +1,7 @@
 -- `bench::steps::station_step` meets its contract. Assumes nothing.
 use Rattle.std.proofs.Common.{sym, ap, ◌∙◌, ℤ}
 use Rattle.std.proofs.Math.Facts.{to_z-of_z}
+use Rattle.std.specs.Bool.{then_some}
 use Rattle.bench.proofs.BenchLaws.{station_refused, station_worked}
 use Rattle.bench.proofs.steps.station_step.Goals as goal
 
@@ -14,4 +15,4 @@ returns c =
     let a = c.args in
     rw (c.after.ensures, c.reply-answer.ensures, c.link.ensures, c.full.ensures)
     (station_worked a.station a.valid a.value a.stop (sym c.fits.ensures ∙ c.if-not-fits.false) _
-    (ap (λ (v : ℤ). record { valid = a.valid; value = v }) (to_z-of_z c.ranges.value)))
+    (c.then_some-link.ensures ∙ ap (λ (v : ℤ). then_some a.valid v) (to_z-of_z c.ranges.value)))
