@@ -1,4 +1,4 @@
--- `strict::kinds_of` meets its contract. The loop's invariant: the kinds of the nodes below n are read. Assumes nothing.
+-- `node::kinds` meets its contract. The loop's invariant: the kinds of the nodes below n are read. Assumes nothing.
 use mathlib.Core.Path.{◌≡◌}
 use mathlib.Core.Bool.{false}
 use Prim.Native.Nat.{◌<◌}
@@ -10,8 +10,8 @@ use Rattle.netlist.specs.Image.{nodes, kind}
 use Rattle.netlist.specs.AcceptedLaws.{accepted}
 use Rattle.netlist.specs.Readers.{core_at}
 use Rattle.pearl.specs.KindLaws.{decodes_ok, code-decoded}
-use Rattle.strict.specs.DecodedLaws.{kinds_more}
-use Rattle.strict.proofs.kinds_of.Goals as goal
+use Rattle.node.specs.KindsLaws.{kinds_more}
+use Rattle.node.proofs.kinds.Goals as goal
 
 pub unwrap-requires : goal.unwrap-requires
 unfolding core_at

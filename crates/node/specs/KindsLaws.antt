@@ -1,0 +1,25 @@
+-- A law of decoded kinds. Assumes nothing.
+use Rattle.std.specs.Prelude.{List, ◌≡◌, ℕ, suc, ◌<◌, set}
+use Rattle.std.proofs.Common.{⊎_elim, arith, get_or-set_same, get_or-set_other}
+use Rattle.std.proofs.Math.ListN.{length-set}
+use Rattle.laws.specs.Cases.{below_suc}
+use Rattle.netlist.specs.Image.{kind}
+use Rattle.pearl.specs.declared.Kind.{Kind}
+use Rattle.pearl.specs.declared.Kind.TheVariants.{Count}
+use Rattle.pearl.specs.Kind.{code}
+use Rattle.node.specs.Kinds.{KindsBelow}
+
+-- one more node's kind is read
+pub kinds_more :
+    (img : List ℕ) (n : ℕ) (kinds : List Kind) (x : Kind) → n < 64 → KindsBelow img n kinds → code x ≡ kind img n
+    → KindsBelow img (suc n) (set kinds n x)
+kinds_more img n kinds x h below e =
+    record {
+      long = rw length-set below.long;
+      each =
+          λ k l.
+          ⊎_elim
+          (λ (q : k ≡ n). rw (q, get_or-set_same kinds n x Count (omega (arith, below.long))) e)
+          (λ (b : k < n). rw (get_or-set_other kinds n k x Count (λ q. omega arith)) (below.each k b))
+          (below_suc l);
+    }
