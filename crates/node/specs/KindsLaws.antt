@@ -1,13 +1,18 @@
--- A law of decoded kinds. Assumes nothing.
-use Rattle.std.specs.Prelude.{List, ◌≡◌, ℕ, suc, ◌<◌, set}
+-- Laws of the kinds that are read. Assumes nothing.
+use Rattle.std.specs.Prelude.{List, ◌≡◌, ℕ, suc, ◌<◌, set, replicate, refl}
 use Rattle.std.proofs.Common.{⊎_elim, arith, get_or-set_same, get_or-set_other}
 use Rattle.std.proofs.Math.ListN.{length-set}
 use Rattle.laws.specs.Cases.{below_suc}
+use Rattle.laws.specs.ListsLaws.{replicate_rest}
 use Rattle.netlist.specs.Image.{kind}
 use Rattle.pearl.specs.declared.Kind.{Kind}
 use Rattle.pearl.specs.declared.Kind.TheVariants.{Count}
 use Rattle.pearl.specs.Kind.{code}
 use Rattle.node.specs.Kinds.{KindsBelow}
+
+-- none is read
+pub kinds_none : (img : List ℕ) → KindsBelow img 0 (replicate 64 Count)
+kinds_none img = record { long = refl; each = λ k l. absurd (omega arith); others = λ k l. replicate_rest 64 k Count }
 
 -- one more node's kind is read
 pub kinds_more :
@@ -22,4 +27,5 @@ kinds_more img n kinds x h below e =
           (λ (q : k ≡ n). rw (q, get_or-set_same kinds n x Count (omega (arith, below.long))) e)
           (λ (b : k < n). rw (get_or-set_other kinds n k x Count (λ q. omega arith)) (below.each k b))
           (below_suc l);
+      others = λ k l. rw (get_or-set_other kinds n k x Count (λ q. omega arith)) (below.others k (omega arith));
     }

@@ -1,14 +1,16 @@
-// A node in its netlist: what the strict run and the cycle engine share.
+// A node in its netlist: the kinds of all nodes, read once. The definition of a node's next value, which the
+// strict run and the cycle engine share, stands under specs/.
 #![tactic(auto)]
 
-ghost use Rattle.node.specs.Kinds.{HasKinds};
+ghost use Rattle.netlist.specs.Image.{nodes};
+ghost use Rattle.node.specs.Kinds.{KindsBelow};
 
 use netlist::Netlist;
 use pearl::Kind;
 
-// The kinds of all nodes, decoded once. A place that no node has holds some kind.
-pub fn kinds(netlist: Netlist) -> [Kind; 64]
-    ensures { HasKinds netlist.entry.image.now result }
+// The kinds of all nodes, and behind them a kind that nothing reads.
+pub fn kinds_of(netlist: Netlist) -> [Kind; 64]
+    ensures { KindsBelow netlist.entry.image.now (nodes netlist.entry.image.now) result }
 {
     let mut kinds = [Kind::Count; 64];
     for n in 0..netlist.nodes() {

@@ -5,14 +5,14 @@ use Rattle.netlist.specs.Image.{nodes, channels}
 use Rattle.pearl.specs.declared.Kind.TheVariants.{Count}
 use Rattle.pearl.specs.Kind.{code}
 use Rattle.pearl.specs.Next.{next_value}
-use Rattle.node.specs.Kinds.{HasKinds}
+use Rattle.node.specs.Kinds.{KindsBelow}
 use Rattle.strict.specs.declared.System.{System}
 use Rattle.strict.specs.Decoded.{feeders_below, port_on}
 
 -- the system of an image
 pub record DecodedFrom (img : List ℕ) (system : System) : Type 0 where
   pub counted : system.nodes ≡ nodes img
-  pub kinds : HasKinds img system.kinds
+  pub kinds : KindsBelow img (nodes img) system.kinds
   pub fed : system.feeders ≡ feeders_below img (channels img)
 
 -- node n's value after a cycle, and those of all nodes

@@ -35,7 +35,7 @@ impl System {
     {
         System {
             nodes: usize::from(netlist.nodes()),
-            kinds: node::kinds(netlist),
+            kinds: node::kinds_of(netlist),
             feeders: feeders_of(netlist),
         }
     }

@@ -1,4 +1,4 @@
--- `node::kinds` meets its contract. The loop's invariant: the kinds of the nodes below n are read. Assumes nothing.
+-- `node::kinds_of` meets its contract. The loop's invariant: the kinds of the nodes below n are read. Assumes nothing.
 use mathlib.Core.Path.{◌≡◌}
 use mathlib.Core.Bool.{false}
 use Prim.Native.Nat.{◌<◌}
@@ -10,8 +10,8 @@ use Rattle.netlist.specs.Image.{nodes, kind}
 use Rattle.netlist.specs.AcceptedLaws.{accepted}
 use Rattle.netlist.specs.Readers.{core_at}
 use Rattle.pearl.specs.KindLaws.{decodes_ok, code-decoded}
-use Rattle.node.specs.KindsLaws.{kinds_more}
-use Rattle.node.proofs.kinds.Goals as goal
+use Rattle.node.specs.KindsLaws.{kinds_none, kinds_more}
+use Rattle.node.proofs.kinds_of.Goals as goal
 
 pub unwrap-requires : goal.unwrap-requires
 unfolding core_at
@@ -22,6 +22,9 @@ unwrap-requires c =
     let e : outside 1 9 c.core.result.kind ≡ false =
     rw (c.core.ensures, le-ltb (kind img c.loop-n.n) 1 r.0, le-ltb 9 (kind img c.loop-n.n) r.1) in
     decodes_ok c.core.result.kind c.try_from.result e c.try_from.ensures
+
+pub loop-n-init : goal.loop-n-init
+loop-n-init c = kinds_none c.args.netlist.image.now
 
 pub loop-n-preserved : goal.loop-n-preserved
 unfolding core_at
