@@ -75,7 +75,10 @@ pub fn channel_bench_strict(image: &[u8], cycle: u32, values: &mut [i32]) -> u8
     ensures value { result ≡ strict_number image.now cycle (length values.old) }
     ensures values_after { values.new ≡ strict_written image.now cycle values.old }
 {
-    strict::strict(image, cycle, values)
+    match strict::strict(image, cycle, values) {
+        Ok(()) => 0,
+        Err(refusal) => refusal.number(),
+    }
 }
 
 // The first line of every trace.

@@ -341,10 +341,9 @@ pub(crate) fn run_end(rt: &impl Print, cells: &mut Cells, state: State) -> io::R
 // ---- strict runs
 
 fn engine_strict(image: &[u8], cycle: u32, room: usize, values: &mut [i32]) -> u8 {
-    if room <= values.len() {
-        return strict::strict(image, cycle, &mut values[0..room]);
-    }
-    strict::strict(image, cycle, values)
+    let lent = values.len().min(room);
+    strict::strict(image, cycle, &mut values[..lent])
+        .map_or_else(|refusal| refusal.number(), |()| 0)
 }
 
 fn strict_expected(cells: &Cells, cycle: u64, n: u64, written: u64) -> u64 {

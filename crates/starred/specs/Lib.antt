@@ -1,3 +1,3 @@
--- The starred edges of document 01: the table, and the claim that settles it with the others.
+-- The starred edges: the table, and the claim that settles it with the others.
 pub mod Edges
 pub mod Starred

@@ -1,11 +1,12 @@
-// The edges that document 01 stars: the arithmetic ones as a table, to be run; all of them as one
-// claim on the definitions (specs/Starred.antt).
+// The starred edges: the arithmetic ones as a table, to be run; all of them as one claim on the
+// definitions (specs/Starred.antt).
 #![tactic(auto)]
 
 ghost use Rattle.std.specs.Prelude.{◌≡◌};
 ghost use Rattle.starred.specs.Edges.{edge_at};
 
 // A kind, the values s, a, b and c that go in, and the next value that they give.
+// The kind is a number since past the table's end it is 0, which is no `pearl::Kind`.
 #[derive(Clone, Copy)]
 pub struct Edge {
     pub kind: u8,
@@ -63,16 +64,16 @@ const EDGES: [Edge; 9] = [
     },
 ];
 
+// Past the table's end.
+const NONE: Edge = Edge {
+    kind: 0,
+    inputs: [0; 4],
+    expected: 0,
+};
+
 // Entry i of the table, all zeros past its end.
 pub fn edge_at(i: u8) -> Edge
     ensures { result ≡ edge_at i }
 {
-    if i < 9 {
-        return EDGES[i as usize];
-    }
-    Edge {
-        kind: 0,
-        inputs: [0; 4],
-        expected: 0,
-    }
+    EDGES.get(usize::from(i)).copied().unwrap_or(NONE)
 }
