@@ -25,21 +25,24 @@ use Rattle.relay.specs.Link.{Link, token, link_of, passing, reading}
 use Rattle.relay.specs.LinkLaws.{reading-token}
 use Rattle.relay.specs.Station.{held, station_of, place_after}
 use Rattle.relay.specs.RowCycle.{no_station}
+use Rattle.pearl.specs.declared.Kind.{Kind}
+use Rattle.pearl.specs.declared.Kind.TheVariants.{Count}
+use Rattle.pearl.specs.Kind.{code}
 use Rattle.pearl.specs.Next.{next_value}
+use Rattle.node.specs.Kinds.{KindsBelow}
 use Rattle.shell.specs.declared.Queue.{Queue}
 use Rattle.shell.specs.Queue.{waiting, full, queue_after}
 use Rattle.shell.specs.QueueLaws.{after_idle}
 use Rattle.shell.specs.Channel.{blocked, pending_after, arriving, stop_below, seen}
-use Rattle.cycle.specs.declared.Kinds.{Kinds}
 use Rattle.state.specs.declared.Node.{Node}
 use Rattle.state.specs.declared.State.{State}
 use Rattle.state.specs.State.{no_node, no_queue, node_at, mark_at, station_at, queue_at, channel_in}
 use Rattle.cycle.specs.Cycle.{stalled, input_at, blocked_at, seen_at, fires, node_after, state_after, after}
 use Rattle.state.specs.Fitting.{Fitting}
 use Rattle.state.specs.FittingLaws.{nodes_long, pending_long, stations_long, queues_long, queue_count}
-use Rattle.cycle.specs.Parts.{kinds_below, starved_below, brought_below, blocked_below, fires_below, nodes_below}
+use Rattle.cycle.specs.Parts.{starved_below, brought_below, blocked_below, fires_below, nodes_below}
 use Rattle.cycle.specs.Parts.{station_next, queue_next, mark_next, moved_below}
-use Rattle.cycle.specs.PartsLaws.{link_in, stop_in, link_source, link_above, link_last, stop_inside, stop_last, input-at, blocked-at, kind-read}
+use Rattle.cycle.specs.PartsLaws.{link_in, stop_in, link_source, link_above, link_last, stop_inside, stop_last, input-at, blocked-at}
 use Rattle.cycle.specs.PartsLaws.{starved_turn, blocked_turn, brought_turn, station_turn, mark_turn, queue_turn, gate_turn, taken_turn}
 use Rattle.cycle.specs.PartsLaws.{row_skip, cycle_done}
 
@@ -251,17 +254,17 @@ module _ (img : List ℕ) (a : Accepted img) (s : State) (fit : Fitting img s) (
 
   -- it fires
   pub fired-read :
-      fires img w s n ≡ true → (kinds : Kinds) → kinds ≡ kinds_below img (nodes img) → (brought : List ℤ) → brought ≡ brought_below img s (channels img)
+      fires img w s n ≡ true → (kinds : List Kind) → KindsBelow img (nodes img) kinds → (brought : List ℤ) → brought ≡ brought_below img s (channels img)
       → (x y z : ℤ) → x ≡ get_or brought (3 * n) (pos 0) → y ≡ get_or brought (3 * n + 1) (pos 0) → z ≡ get_or brought (3 * n + 2) (pos 0)
       → ◌≡◌ {A = Node}
       (record {
-        value = next_value (get_or kinds.at n 0) (get_or s.nodes n no_node).value x y z;
+        value = next_value (code (get_or kinds n Count)) (get_or s.nodes n no_node).value x y z;
         firings = suc (get_or s.nodes n no_node).firings;
       })
       (node_after img w s n)
   unfolding node_after node_at
   fired-read f kinds p brought q x y z a1 a2 a3 =
-      rw (f, a1, a2, a3, kind-read img n h kinds p, q, taken_turn img s n a h (get_or s.nodes n no_node).value)
+      rw (f, a1, a2, a3, p.each n h, q, taken_turn img s n a h (get_or s.nodes n no_node).value)
 
   pub gated_turn :
       (t u : State) (was now : List Bool) → t ≡ moved_below img w s s.cycles (nodes_below img w s n) 0 0 → was ≡ fires_below img w s n

@@ -4,16 +4,16 @@
 #![tactic(auto)]
 
 ghost use Rattle.std.specs.Prelude.{◌≡◌, suc, ◌+◌, ◌<◌, ◌≤◌, length};
-ghost use Rattle.laws.specs.Choice.{◌if◌else◌};
 ghost use Rattle.laws.specs.Table.{table_over};
-ghost use Rattle.netlist.specs.Image.{nodes, channels};
-ghost use Rattle.netlist.specs.Accepted.{Accepted};
+ghost use Rattle.netlist.specs.Image.{channels};
+ghost use Rattle.pearl.specs.Kind.{code};
 ghost use Rattle.pearl.specs.Next.{next_value};
 ghost use Rattle.cycle.specs.Cycle.{stalled, seen_at, after};
 ghost use Rattle.state.specs.Fitting.{Fitting};
-ghost use Rattle.cycle.specs.Parts.{wires_below, kinds_below};
+ghost use Rattle.cycle.specs.Parts.{wires_below};
 
-use netlist::Channel;
+use netlist::{Channel, Netlist};
+use pearl::Kind;
 use relay::Reading;
 use state::{Node, State};
 
@@ -26,34 +26,20 @@ fn stalls(word: u64, n: usize) -> bool
 }
 
 // A node that fires, from what its ports bring.
-fn fired(node: Node, kind: u8, a: i32, b: i32, c: i32) -> Node
+fn fired(node: Node, kind: Kind, a: i32, b: i32, c: i32) -> Node
     requires { node.firings < 1000000 }
-    ensures { result ≡ record { value = next_value kind node.value a b c; firings = suc node.firings } }
+    ensures { result ≡ record { value = next_value (code kind) node.value a b c; firings = suc node.firings } }
 {
-    let next = pearl::next_value(kind, node.value, a, b, c);
     Node {
-        value: next.value,
+        value: kind.next(node.value, a, b, c),
         firings: node.firings + 1,
     }
 }
 
-// What is decoded of the channels, and of the nodes.
-#[derive(Clone, Copy)]
-struct Wires {
-    at: [Channel; 96],
-}
-
-#[derive(Clone, Copy)]
-struct Kinds {
-    at: [u8; 64],
-}
-
 // The fields of all channels.
-fn wires_of(image: &[u8]) -> Wires
-    requires { channels image.now ≤ 96 }
-    ensures { result ≡ wires_below image.now (channels image.now) }
+fn wires_of(netlist: Netlist) -> [Channel; 96]
+    ensures { result ≡ wires_below netlist.entry.image.now (channels netlist.entry.image.now) }
 {
-    let channels = netlist::channels(image);
     let none = Channel {
         from: 0,
         to: 0,
@@ -61,39 +47,25 @@ fn wires_of(image: &[u8]) -> Wires
         stations: 0,
         depth: 0,
     };
-    let mut wires = Wires { at: [none; 96] };
-    for c in 0..channels {
-        wires.at[c as usize] = netlist::channel_at(image, c);
+    let mut wires = [none; 96];
+    for c in 0..netlist.channels() {
+        wires[c as usize] = netlist.channel(c);
     }
     wires
-}
-
-// The kinds of all nodes.
-fn kinds_of(image: &[u8]) -> Kinds
-    requires { nodes image.now ≤ 64 }
-    ensures { result ≡ kinds_below image.now (nodes image.now) }
-{
-    let nodes = netlist::nodes(image);
-    let mut kinds = Kinds { at: [0; 64] };
-    for n in 0..nodes {
-        kinds.at[n as usize] = netlist::core_at(image, n).kind;
-    }
-    kinds
 }
 
 // The state after the cycles of these words. Each cycle is worked from the state at its start, `old`,
 // and written to `s`. It is one function because a state that is handed to another is copied, which
 // costs a tenth of the cycle each time (docs/PERFORMANCE.md).
-pub fn cycles(image: &[u8], state: State, words: &[u64]) -> State
-    requires accepted { Accepted image.now }
-    requires fitting { Fitting image.now state }
+pub fn cycles(netlist: Netlist, state: State, words: &[u64]) -> State
+    requires fitting { Fitting netlist.image.now state }
     requires words_bound { state.cycles + length words.now ≤ 1000000 }
-    ensures { result ≡ after image.now state words.now }
+    ensures { result ≡ after netlist.entry.image.now state words.now }
 {
-    let nodes = netlist::nodes(image) as usize;
-    let channels = netlist::channels(image) as usize;
-    let wires = wires_of(image);
-    let kinds = kinds_of(image);
+    let nodes = netlist.nodes() as usize;
+    let channels = netlist.channels() as usize;
+    let wires = wires_of(netlist);
+    let kinds = node::kinds_of(netlist);
     let mut s = state;
     for &word in words {
         let old = s;
@@ -103,7 +75,7 @@ pub fn cycles(image: &[u8], state: State, words: &[u64]) -> State
         let mut brought = [0; 192];
         let mut blocked = [false; 64];
         for c in 0..channels {
-            let channel = wires.at[c];
+            let channel = wires[c];
             let from = channel.from as usize;
             let to = channel.to as usize;
             let length = channel.stations as usize;
@@ -128,7 +100,7 @@ pub fn cycles(image: &[u8], state: State, words: &[u64]) -> State
                 let node = old.nodes[n];
                 s.nodes[n] = fired(
                     node,
-                    kinds.at[n],
+                    kinds[n],
                     brought[3 * n],
                     brought[3 * n + 1],
                     brought[3 * n + 2],
@@ -138,7 +110,7 @@ pub fn cycles(image: &[u8], state: State, words: &[u64]) -> State
         }
         // What passes moves on.
         for c in 0..channels {
-            let channel = wires.at[c];
+            let channel = wires[c];
             let from = channel.from as usize;
             let to = channel.to as usize;
             let length = channel.stations as usize;
@@ -172,16 +144,15 @@ pub fn cycles(image: &[u8], state: State, words: &[u64]) -> State
 }
 
 // Each channel's letter and value, written to the first places of two lent arrays.
-pub fn show(image: &[u8], state: State, letters: &mut [u8], values: &mut [i32])
-    requires accepted { Accepted image.now }
-    requires fitting { Fitting image.now state }
-    requires image_in_bounds { (channels image.now ≤ length letters.old) × (channels image.now ≤ length values.old) }
-    ensures letters_after { letters.new ≡ table_over (λ c. (seen_at image.now state c).letter) (channels image.now) letters.old }
-    ensures values_after { values.new ≡ table_over (λ c. (seen_at image.now state c).value) (channels image.now) values.old }
+pub fn show(netlist: Netlist, state: State, letters: &mut [u8], values: &mut [i32])
+    requires fitting { Fitting netlist.image.now state }
+    requires image_in_bounds { (channels netlist.image.now ≤ length letters.old) × (channels netlist.image.now ≤ length values.old) }
+    ensures letters_after { letters.new ≡ table_over (λ c. (seen_at netlist.entry.image.now state c).letter) (channels netlist.entry.image.now) letters.old }
+    ensures values_after { values.new ≡ table_over (λ c. (seen_at netlist.entry.image.now state c).value) (channels netlist.entry.image.now) values.old }
 {
-    let channels = netlist::channels(image);
+    let channels = netlist.channels();
     for c in 0..channels {
-        let channel = netlist::channel_at(image, c);
+        let channel = netlist.channel(c);
         let at = c as usize;
         let length = channel.stations as usize;
         let node = state.nodes[channel.from as usize];

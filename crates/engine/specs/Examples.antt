@@ -1,4 +1,4 @@
--- The definitions, computed: figure 4 of source document 000, whole; a netlist with stations on every channel through twenty cycles with stalls;
+-- The definitions, computed: figure 4, whole; a netlist with stations on every channel through twenty cycles with stalls;
 -- states that fit their image and states that do not; the numbers of a step and of a run, in their order.
 use Rattle.std.specs.Prelude.{Bool, true, false, ◌&&◌, ◌||◌, List, [], ◌∷◌, ◌++◌, map, ◌≡◌, refl, ℕ, eqb, leb, ltb, ℤ, pos, get_or, set, replicate}
 use Rattle.std.proofs.Common.{sym, ap, ◌∙◌, arith}
@@ -17,7 +17,7 @@ use Rattle.node.specs.Node.{port_value, next_of}
 use Rattle.relay.specs.declared.Reading.{Reading}
 use Rattle.relay.specs.declared.Station.{Station}
 use Rattle.relay.specs.Examples.{t, t-, r, i, s}
-use Rattle.relay.specs.Link.{link_of, letter, reading}
+use Rattle.relay.specs.Link.{letter, reading}
 use Rattle.relay.specs.Station.{held, station_of, place_after}
 use Rattle.relay.specs.Row.{stopped, leaving, row_after}
 use Rattle.shell.specs.declared.Queue.{Queue}
@@ -56,7 +56,7 @@ stationed =
     (0 ∷ 1 ∷ 0 ∷ 3 ∷ 1 ∷ 1 ∷ 1 ∷ 2 ∷ 0 ∷ 2 ∷ 3 ∷ 0 ∷ 0 ∷ 3 ∷ 1 ∷ []) ++
     (1 ∷ 1 ∷ 1 ∷ 1 ∷ 2 ∷ 1 ∷ 1 ∷ 2 ∷ 3 ∷ 1 ∷ [])
 
--- words under which each of document 01's "Misreadings to shut out" would show in the trace
+-- words under which each way to misread the rules would show in the trace
 abbrev pub stalls : List ℕ
 stalls = 4 ∷ 10 ∷ 0 ∷ 2 ∷ 7 ∷ 5 ∷ 13 ∷ 9 ∷ 0 ∷ 0 ∷ 9 ∷ 13 ∷ 3 ∷ 4 ∷ 11 ∷ 12 ∷ 0 ∷ 0 ∷ 14 ∷ 0 ∷ []
 
@@ -76,7 +76,7 @@ record Traced : Type 0 where
       (t 16 ∷ t 106 ∷ s ∷ i ∷ []) ∷
       (t 17 ∷ t 107 ∷ t 122 ∷ t 122 ∷ []) ∷ []
   figure4-fired : fired figure4 (fresh_state figure4) words ≡ 8 ∷ 8 ∷ 8 ∷ 8 ∷ 8 ∷ []
-  -- what a simulator that was written from document 01 alone prints
+  -- what a simulator that was written from the rules alone prints
   stationed_trace :
       lines stationed (fresh_state stationed) stalls ≡
       (i ∷ i ∷ i ∷ i ∷ i ∷ []) ∷
@@ -104,7 +104,7 @@ record Traced : Type 0 where
 traced : Traced
 unfolding all_below any_below pick_below signed padded table
     nodes channels kind parameter wire from to port feeds depths stations depth wrap exact next_value port_value next_of
-    link_of letter reading held station_of place_after stopped leaving row_after
+    letter reading held station_of place_after stopped leaving row_after
     waiting queue_of full blocked arriving input stop_below stop_above seen channel_after
     node_at mark_at station_at queue_at channel_in state_of fresh_state
     stalled input_at blocked_at seen_at all_ready any_blocked fires node_after channel_next state_after after
@@ -257,7 +257,7 @@ record Answered : Type 0 where
 answered : Answered
 unfolding any_below sum_below padded table nodes channels kind wire from to port feeds depths stations depth inputs
     judge bad_kind bad_wire bad_port fed_twice not_fed bad_stations bad_depth
-    link_of letter reading held leaving waiting queue_of full arriving stop_below seen
+    letter reading held leaving waiting queue_of full arriving stop_below seen
     node_at mark_at station_at queue_at channel_in state_of seen_at state_after after letters_of values_of
     cycles_fit fits sets_above step_number step_of step_more ran_from run_answer
 answered =

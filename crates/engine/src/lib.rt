@@ -123,9 +123,8 @@ pub fn step(
         Ok(netlist) => netlist,
         Err(refusal) => return Err(Refused { refusal, state }),
     };
-    cycle::show(netlist.image, state, letters, values);
-    let words = [word];
-    Ok(cycle::cycles(netlist.image, state, &words))
+    cycle::show(netlist, state, letters, values);
+    Ok(cycle::cycles(netlist, state, &[word]))
 }
 
 // A cycle for each of the words, in order, up to the first that is refused. It answers how many it
@@ -145,7 +144,7 @@ pub fn run(image: &[u8], state: State, words: &[u64]) -> Ran
         }
     };
     let taken = words_taken(netlist.nodes(), state.cycles, words);
-    let last = cycle::cycles(netlist.image, state, &words[..taken.steps]);
+    let last = cycle::cycles(netlist, state, &words[..taken.steps]);
     Ran {
         steps: taken.steps as u32,
         state: last,

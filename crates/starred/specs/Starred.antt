@@ -1,5 +1,5 @@
 -- "The starred edges are one proved table, settled by one claim on the definitions."
-use Rattle.std.specs.Prelude.{true, false, List, [], ◌∷◌, map, ◌≡◌, refl, ℕ, ℤ, pos, replicate}
+use Rattle.std.specs.Prelude.{Some, true, false, List, [], ◌∷◌, map, ◌≡◌, refl, ℕ, ℤ, pos, replicate}
 use Rattle.laws.specs.Below.{all_below, any_below, pick_below}
 use Rattle.laws.specs.Signed.{signed}
 use Rattle.laws.specs.Lists.{padded}
@@ -8,10 +8,9 @@ use Rattle.netlist.specs.Image.{nodes, channels, kind, parameter}
 use Rattle.pearl.specs.Wrap.{wrap}
 use Rattle.pearl.specs.Next.{halve, larger, choose, exact, next_value}
 use Rattle.node.specs.Node.{port_value, next_of}
-use Rattle.relay.specs.declared.Link.{Link}
 use Rattle.relay.specs.declared.Row.{Row}
 use Rattle.relay.specs.declared.RowCycle.{RowCycle}
-use Rattle.relay.specs.Link.{token, link_of, letter, reading}
+use Rattle.relay.specs.Link.{Link, link_of, letter, reading}
 use Rattle.relay.specs.Station.{held, station_of, place_after}
 use Rattle.relay.specs.Row.{stopped, leaving, row_after}
 use Rattle.relay.specs.RowCycle.{places, row_cycle}
@@ -27,7 +26,7 @@ abbrev first : List ℤ → Row
 first tokens = record { stations = station_of tokens ∷ replicate 7 (station_of []) }
 
 abbrev offered : ℤ → Link
-offered v = record { valid = true; value = v }
+offered v = Some v
 
 -- one station in a cycle without a stop below it, to which v is offered
 abbrev relayed : List ℤ → ℤ → RowCycle
@@ -56,7 +55,7 @@ pub record Starred : Type 0 where
 pub starred : Starred
 unfolding all_below any_below pick_below signed padded table nodes channels kind parameter
     wrap halve larger choose exact next_value
-    token link_of letter reading held station_of place_after stopped leaving row_after places row_cycle
+    letter reading held station_of place_after stopped leaving row_after places row_cycle
     waiting queue_of full pushed popped queue_after arriving input stop_below stop_above seen channel_after
     port_value next_of node_at state_of fresh_state stalled all_ready any_blocked fires node_after state_after after
 starred =

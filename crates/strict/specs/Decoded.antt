@@ -1,17 +1,9 @@
--- What the code decodes of an image, once: each node's kind, and the node that feeds each port.
-use Rattle.std.specs.Prelude.{List, ◌≡◌, ℕ, ◌<◌, ℤ, pos, get_or, length}
+-- What the code decodes of an image, once: the node that feeds each port.
+use Rattle.std.specs.Prelude.{List, ℕ, ◌<◌, ℤ, pos, get_or}
 use Rattle.laws.specs.Lists.{padded}
-use Rattle.netlist.specs.Image.{kind, from}
+use Rattle.netlist.specs.Image.{from}
 use Rattle.netlist.specs.Ports.{ports_below}
-use Rattle.pearl.specs.declared.Kind.{Kind}
-use Rattle.pearl.specs.declared.Kind.TheVariants.{Count}
-use Rattle.pearl.specs.Kind.{code}
 use Rattle.strict.specs.Strict.{strict_cycle}
-
--- the kinds of the nodes below n, in 64 places
-pub record KindsBelow (img : List ℕ) (n : ℕ) (kinds : List Kind) : Type 0 where
-  pub long : length kinds ≡ 64
-  pub each : (k : ℕ) → k < n → code (get_or kinds k Count) ≡ kind img k
 
 -- the node that feeds each port, by the channels below c; a port that none feeds has 64, a place where the value is always 0
 unfoldable pub feeders_below : List ℕ → ℕ → List ℕ

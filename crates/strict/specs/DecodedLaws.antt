@@ -1,19 +1,15 @@
 -- A cycle of what was decoded is a cycle of the strict system. Assumes nothing.
-use Rattle.std.specs.Prelude.{List, ◌≡◌, ℕ, suc, ◌*◌, ◌/◌, ◌%◌, ◌<◌, set, take}
-use Rattle.std.proofs.Common.{⊎_elim, ap, ◌∙◌, arith, get_or-set_same, get_or-set_other}
-use Rattle.laws.specs.Cases.{below_suc}
+use Rattle.std.specs.Prelude.{List, ◌≡◌, ℕ, suc, ◌*◌, ◌/◌, ◌%◌, ◌<◌, take}
+use Rattle.std.proofs.Common.{ap, ◌∙◌, arith}
 use Rattle.std.proofs.Math.Nat.{add-zero}
 use Rattle.std.proofs.Math.IntN.{pos}
-use Rattle.std.proofs.Math.ListN.{length, length-set, get_or, get_or-eq_default}
+use Rattle.std.proofs.Math.ListN.{length, get_or, get_or-eq_default}
 use Rattle.laws.specs.Below.{pick_below}
 use Rattle.laws.specs.BelowLaws.{pick_one, pick_map}
 use Rattle.laws.specs.ListsLaws.{get_or-padded, take-padded}
 use Rattle.laws.specs.Table.{table_over}
 use Rattle.laws.specs.TableLaws.{get_d_any, over_padded, over_same}
-use Rattle.netlist.specs.Image.{nodes, channels, kind, from, feeds}
-use Rattle.pearl.specs.declared.Kind.{Kind}
-use Rattle.pearl.specs.declared.Kind.TheVariants.{Count}
-use Rattle.pearl.specs.Kind.{code}
+use Rattle.netlist.specs.Image.{nodes, channels, from, feeds}
 use Rattle.netlist.specs.Accepted.{Accepted}
 use Rattle.netlist.specs.AcceptedLaws.{accepted-wired}
 use Rattle.netlist.specs.Ports.{port_place, ports_below}
@@ -22,23 +18,8 @@ use Rattle.node.specs.Node.{port_value, next_of}
 use Rattle.strict.specs.Strict.{strict_next, strict_cycle}
 use Rattle.strict.specs.StrictLaws.{length_cycle}
 use Rattle.strict.specs.declared.System.{System}
-use Rattle.strict.specs.Decoded.{KindsBelow, feeders_below, NamesPlaces, port_on, values_at}
+use Rattle.strict.specs.Decoded.{feeders_below, NamesPlaces, port_on, values_at}
 use Rattle.strict.specs.System.{DecodedFrom, value_after, values_after}
-
--- one more node's kind is read
-pub kinds_more :
-    (img : List ℕ) (n : ℕ) (kinds : List Kind) (x : Kind) → n < 64 → KindsBelow img n kinds → code x ≡ kind img n
-    → KindsBelow img (suc n) (set kinds n x)
-kinds_more img n kinds x h below e =
-    record {
-      long = rw length-set below.long;
-      each =
-          λ k l.
-          ⊎_elim
-          (λ (q : k ≡ n). rw (q, get_or-set_same kinds n x Count (omega (arith, below.long))) e)
-          (λ (b : k < n). rw (get_or-set_other kinds n k x Count (λ q. omega arith)) (below.each k b))
-          (below_suc l);
-    }
 
 module _ (img : List ℕ) (a : Accepted img) where
   abbrev feeders : List ℕ

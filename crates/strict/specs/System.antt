@@ -5,8 +5,9 @@ use Rattle.netlist.specs.Image.{nodes, channels}
 use Rattle.pearl.specs.declared.Kind.TheVariants.{Count}
 use Rattle.pearl.specs.Kind.{code}
 use Rattle.pearl.specs.Next.{next_value}
+use Rattle.node.specs.Kinds.{KindsBelow}
 use Rattle.strict.specs.declared.System.{System}
-use Rattle.strict.specs.Decoded.{KindsBelow, feeders_below, port_on}
+use Rattle.strict.specs.Decoded.{feeders_below, port_on}
 
 -- the system of an image
 pub record DecodedFrom (img : List ℕ) (system : System) : Type 0 where

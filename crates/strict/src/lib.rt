@@ -5,7 +5,7 @@ ghost use Rattle.std.specs.Prelude.{◌≡◌, ◌<◌, ◌≤◌, length, IfOk,
 ghost use Rattle.refusal.specs.Number.{number_of};
 ghost use Rattle.netlist.specs.Image.{nodes, channels};
 ghost use Rattle.strict.specs.Answer.{strict_number, strict_written};
-ghost use Rattle.strict.specs.Decoded.{NamesPlaces, KindsBelow, feeders_below, port_on, values_at};
+ghost use Rattle.strict.specs.Decoded.{NamesPlaces, feeders_below, port_on, values_at};
 
 use netlist::Netlist;
 use pearl::Kind;
@@ -35,7 +35,7 @@ impl System {
     {
         System {
             nodes: usize::from(netlist.nodes()),
-            kinds: kinds_of(netlist),
+            kinds: node::kinds_of(netlist),
             feeders: feeders_of(netlist),
         }
     }
@@ -69,17 +69,6 @@ impl System {
         }
         next
     }
-}
-
-// All kinds.
-fn kinds_of(netlist: Netlist) -> [Kind; 64]
-    ensures { KindsBelow netlist.entry.image.now (nodes netlist.entry.image.now) result }
-{
-    let mut kinds = [Kind::Count; 64];
-    for n in 0..netlist.nodes() {
-        kinds[usize::from(n)] = Kind::try_from(netlist.core(n).kind).unwrap();
-    }
-    kinds
 }
 
 // The node that feeds each port.

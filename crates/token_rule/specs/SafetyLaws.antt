@@ -1,5 +1,5 @@
 -- The fresh state is sound, and every cycle keeps it so. Assumes nothing.
-use Rattle.std.specs.Prelude.{Bool, true, false, List, [], ◌∷◌, ◌≡◌, refl, ℤ, length}
+use Rattle.std.specs.Prelude.{is_some, unwrap_or, pos, Bool, true, false, List, [], ◌∷◌, ◌≡◌, refl, ℤ, length}
 use Rattle.std.proofs.lemmas.Bool.{false≢true}
 use Rattle.std.proofs.Math.Path.{sym, ap}
 use Rattle.std.proofs.Common.{◌∙◌, add-zero, add-one, arith, length-append}
@@ -15,8 +15,7 @@ use Rattle.node.specs.Node.{next_of}
 use Rattle.node.specs.NodeLaws.{next_same}
 use Rattle.strict.specs.Strict.{strict, stream}
 use Rattle.strict.specs.StrictLaws.{strict-first, strict_next_lem}
-use Rattle.relay.specs.declared.Link.{Link}
-use Rattle.relay.specs.Link.{link_of}
+use Rattle.relay.specs.Link.{Link, link_of}
 use Rattle.shell.specs.Channel.{tokens}
 use Rattle.shell.specs.ChannelLaws.{oldest_first}
 use Rattle.state.specs.declared.Node.{Node}
@@ -31,8 +30,8 @@ use Rattle.cycle.specs.KeptLaws.{steady-next}
 use Rattle.token_rule.specs.Safety.{Sound}
 
 -- the first of a stretch, where a link shows it
-shown_first : (f : ℕ → ℤ) (a : ℕ) (xs : List ℤ) → (link_of xs).valid ≡ true → Stretch f a xs → (link_of xs).value ≡ f a
-unfolding link_of Stretch
+shown_first : (f : ℕ → ℤ) (a : ℕ) (xs : List ℤ) → is_some (link_of xs) ≡ true → Stretch f a xs → unwrap_or (link_of xs) (pos 0) ≡ f a
+unfolding Stretch
 shown_first f a [] e s = absurd (false≢true e)
 shown_first f a (x ∷ xs) e s = s.0
 
@@ -53,21 +52,21 @@ module _ (img : List ℕ) (a : Accepted img) where
 
   module _ (w : ℕ) (s : State) (steady : Steady img s) (ok : Sound img s) where
     -- an input that is ready shows the strict value that its node needs,
-    input-token : (c : ℕ) → c < channels img → (input_at img s c).valid ≡ true → (input_at img s c).value ≡ stream img c (firings_at s (to img c))
+    input-token : (c : ℕ) → c < channels img → is_some (input_at img s c) ≡ true → unwrap_or (input_at img s c) (pos 0) ≡ stream img c (firings_at s (to img c))
     unfolding input_at
     input-token c h e =
         let same = oldest_first (channel_in img s c) e in
-        sym (ap (λ (l : Link). l.value) same)
-        ∙ shown_first (stream img c) (firings_at s (to img c)) (tokens (channel_in img s c)) (ap (λ (l : Link). l.valid) same ∙ e) (ok.streamed c h)
+        sym (ap (λ (l : Link). unwrap_or l (pos 0)) same)
+        ∙ shown_first (stream img c) (firings_at s (to img c)) (tokens (channel_in img s c)) (ap (λ (l : Link). is_some l) same ∙ e) (ok.streamed c h)
 
     -- so a node that fires takes its strict value of the next cycle,
     new_value :
         (n : ℕ) → n < nodes img → fires img w s n ≡ true
-        → next_of img (λ c. (input_at img s c).value) n (value_at s n) ≡ strict img n (suc (firings_at s n))
+        → next_of img (λ c. unwrap_or (input_at img s c) (pos 0)) n (value_at s n) ≡ strict img n (suc (firings_at s n))
     unfolding stream
     new_value n h f =
         let k = firings_at s n in
-        next_same img img (alike_same img) (λ c. (input_at img s c).value) (λ c. strict img (from img c) k) n (value_at s n) h
+        next_same img img (alike_same img) (λ c. unwrap_or (input_at img s c) (pos 0)) (λ c. strict img (from img c) k) n (value_at s n) h
         (λ c l e. rw (← e) (input-token c l (fires_ready img w s c l (rw e f))))
         ∙ ap (next_of img (λ c. strict img (from img c) k) n) (ok.valued n h) ∙ sym (strict_next_lem img n k h)
 

@@ -13,7 +13,7 @@ use Rattle.netlist.specs.Examples.{figure4}
 use Rattle.pearl.specs.Wrap.{wrap}
 use Rattle.pearl.specs.Next.{exact, next_value}
 use Rattle.node.specs.Node.{port_value, next_of}
-use Rattle.relay.specs.Link.{link_of, letter, reading}
+use Rattle.relay.specs.Link.{letter, reading}
 use Rattle.relay.specs.Station.{held, station_of, place_after}
 use Rattle.relay.specs.Row.{stopped, leaving, row_after}
 use Rattle.shell.specs.Queue.{waiting, queue_of, full}
@@ -119,7 +119,7 @@ all_printed : Printed
 unfolding all_below any_below sum_below pick_below signed padded table flat_map
     nodes channels kind parameter wire from to port feeds depths stations depth inputs wrap exact next_value port_value next_of
     judge bad_kind bad_wire bad_port fed_twice not_fed bad_stations bad_depth
-    link_of letter reading held station_of place_after stopped leaving row_after
+    letter reading held station_of place_after stopped leaving row_after
     waiting queue_of full blocked arriving input stop_below stop_above seen channel_after
     node_at mark_at station_at queue_at channel_in state_of fresh_state
     stalled input_at blocked_at seen_at all_ready any_blocked fires node_after channel_next state_after after
@@ -228,7 +228,7 @@ called : Called
 unfolding all_below any_below sum_below pick_below signed padded table flat_map
     nodes channels kind parameter wire from to port feeds depths stations depth inputs wrap exact next_value port_value next_of
     judge bad_kind bad_wire bad_port fed_twice not_fed bad_stations bad_depth
-    link_of letter reading held station_of place_after stopped leaving row_after
+    letter reading held station_of place_after stopped leaving row_after
     waiting queue_of full blocked arriving input stop_below stop_above seen channel_after
     node_at mark_at station_at queue_at channel_in state_of fresh_state zeros
     stalled input_at blocked_at seen_at all_ready any_blocked fires node_after channel_next state_after

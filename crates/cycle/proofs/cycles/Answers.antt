@@ -18,6 +18,7 @@ use Rattle.laws.specs.Lists.{holds_two}
 use Rattle.netlist.specs.declared.Channel.{Channel as Wire}
 use Rattle.netlist.specs.Image.{nodes, channels}
 use Rattle.netlist.specs.Accepted.{Accepted}
+use Rattle.netlist.specs.AcceptedLaws.{accepted}
 use mir.Syntax.{w32}
 use mir.Val.{SFits}
 use mir.Facts.{to_z-of_z}
@@ -39,32 +40,31 @@ use Rattle.cycle.specs.Turns.{source_read, arriving-read, stop_read, full-read, 
 use Rattle.cycle.specs.Turns.{station-read, row_turn, link_read, last_read, ends_read, mark_read, queue_read, queue_idle, channel_turn}
 use Rattle.cycle.specs.Turns.{fires-read, fired-read, gated_turn, cycle_turn, after_next}
 use Rattle.cycle.specs.KeptLaws.{fitting-next}
-use Rattle.cycle.specs.declared.Wires.{Wires}
-use Rattle.cycle.specs.Parts.{wires_below}
+use Rattle.cycle.specs.Parts.{no_wire, wires_below}
 use Rattle.cycle.proofs.cycles.Goals.{In-loop-c, In-loop-c-2, then-length-gt0, else-length-gt0, then-stalls-starved, else-stalls-starved, then-j-length, else-j-length, then-length-gt0-2, else-length-gt0-2, then-takes-is_some, else-takes-is_some}
 use Rattle.cycle.proofs.cycles.Goals as goal
 
 -- what is read of channel i, which is one of the image's: its number and its fields are indices
-abbrev read_at : Wires → ℕ → Wire
-read_at wires i = get_or wires.at i (record { from = 0; to = 0; port = 0; stations = 0; depth = 0 })
+abbrev read_at : List Wire → ℕ → Wire
+read_at wires i = get_or wires i no_wire
 
 abbrev Within : ℕ → Wire → Type 0
 Within i w = (i < 96) × (w.from < 64) × (w.to < 64) × (w.port < 3) × (w.stations ≤ 8)
 
-within : (img : List ℕ) → Accepted img → (wires : Wires) → wires ≡ wires_below img (channels img) → (i : ℕ) → i < channels img → Within i (read_at wires i)
+within : (img : List ℕ) → Accepted img → (wires : List Wire) → wires ≡ wires_below img (channels img) → (i : ℕ) → i < channels img → Within i (read_at wires i)
 within img net wires e i h =
     let b = wire-within img net i h _ (wire-read img i h wires e) in
     (omega (arith, net.few_channels), b.0, b.1, b.2, b.3)
 
 scan_within : (c : In-loop-c) → Within c.loop-c.c (read_at c.wires_of-wires.result c.loop-c.c)
 scan_within c =
-    within c.args.image.now c.requires.accepted c.wires_of-wires.result c.wires_of-wires.ensures c.loop-c.c
-    (omega (arith, c.channels-channels.ensures))
+    within c.args.netlist.image.now (accepted c.args.netlist.image.now c.args.netlist.accepted) c.wires_of-wires.result c.wires_of-wires.ensures c.loop-c.c
+    (omega (arith, c.channels-channels.ensures.value))
 
 move_within : (c : In-loop-c-2) → Within c.loop-c-2.c (read_at c.wires_of-wires.result c.loop-c-2.c)
 move_within c =
-    within c.args.image.now c.requires.accepted c.wires_of-wires.result c.wires_of-wires.ensures c.loop-c-2.c
-    (omega (arith, c.channels-channels.ensures))
+    within c.args.netlist.image.now (accepted c.args.netlist.image.now c.args.netlist.accepted) c.wires_of-wires.result c.wires_of-wires.ensures c.loop-c-2.c
+    (omega (arith, c.channels-channels.ensures.value))
 
 -- a pending mark
 byte : (b : Bool) → from_bool b ≡ (1 if b else 0)
@@ -107,12 +107,12 @@ bounds-blocked-from-in-loop-c c = omega (arith, scan_within (goal.at.bounds-bloc
 
 pub loop-c-preserved : goal.loop-c-preserved
 loop-c-preserved c =
-    let img = c.args.image.now in
-    let net = c.requires.accepted in
+    let img = c.args.netlist.image.now in
+    let net = (accepted c.args.netlist.image.now c.args.netlist.accepted) in
     let s = c.loop-word.s in
     let fit = c.loop-word.invariant.fits in
     let i = c.loop-c.c in
-    let h : i < channels img = omega (arith, c.channels-channels.ensures) in
+    let h : i < channels img = omega (arith, c.channels-channels.ensures.value) in
     let e = wire-read img i h c.wires_of-wires.result c.wires_of-wires.ensures in
     let inv = c.loop-c.invariant in
     let join = c.if-length-gt0 in
@@ -142,21 +142,21 @@ loop-n-init c = (omega arith, refl, refl)
 pub fired-requires : goal.fired-requires
 unfolding node_at
 fired-requires c =
-    let there : c.loop-n.n < nodes c.args.image.now = omega (arith, c.nodes-nodes.ensures) in
+    let there : c.loop-n.n < nodes c.args.netlist.image.now = omega (arith, c.nodes-nodes.ensures.value) in
     omega (arith, c.loop-word.invariant.fits.fired c.loop-n.n there, c.loop-word.invariant.count)
 
 pub loop-n-preserved : goal.loop-n-preserved
 loop-n-preserved c =
-    let img = c.args.image.now in
-    let net = c.requires.accepted in
+    let img = c.args.netlist.image.now in
+    let net = (accepted c.args.netlist.image.now c.args.netlist.accepted) in
     let s = c.loop-word.s in
     let fit = c.loop-word.invariant.fits in
     let w = get_or c.args.words.now c.loop-word.word-index 0 in
     let scan = c.loop-c in
     let l = c.loop-n in
     let n = l.n in
-    let there : n < nodes img = omega (arith, c.nodes-nodes.ensures) in
-    let all : scan.c ≡ channels img = omega (arith, c.channels-channels.ensures) in
+    let there : n < nodes img = omega (arith, c.nodes-nodes.ensures.value) in
+    let all : scan.c ≡ channels img = omega (arith, c.channels-channels.ensures.value) in
     let join = c.if-stalls-starved in
     let test = fires-read img net s fit w n there scan.starved scan.blocked
     (scan.invariant.1 ∙ ap (starved_below img s) all) (scan.invariant.3 ∙ ap (blocked_below img s) all) _ c.stalls.ensures in
@@ -191,13 +191,13 @@ bounds-fires-from c = omega (arith, move_within (goal.at.bounds-fires-from c).In
 
 pub loop-j-init : goal.loop-j-init
 loop-j-init c =
-    let img = c.args.image.now in
-    let net = c.requires.accepted in
+    let img = c.args.netlist.image.now in
+    let net = (accepted c.args.netlist.image.now c.args.netlist.accepted) in
     let s = c.loop-word.s in
     let fit = c.loop-word.invariant.fits in
     let w = get_or c.args.words.now c.loop-word.word-index 0 in
     let i = c.loop-c-2.c in
-    let h : i < channels img = omega (arith, c.channels-channels.ensures) in
+    let h : i < channels img = omega (arith, c.channels-channels.ensures.value) in
     let e = wire-read img i h c.wires_of-wires.result c.wires_of-wires.ensures in
     let l = c.loop-c-2 in
     let f : SFits w32 (get_or s.nodes (read_at c.wires_of-wires.result i).from no_node).value = search rules in (
@@ -208,13 +208,13 @@ loop-j-init c =
 
 pub loop-j-preserved : goal.loop-j-preserved
 loop-j-preserved c =
-    let img = c.args.image.now in
-    let net = c.requires.accepted in
+    let img = c.args.netlist.image.now in
+    let net = (accepted c.args.netlist.image.now c.args.netlist.accepted) in
     let s = c.loop-word.s in
     let fit = c.loop-word.invariant.fits in
     let w = get_or c.args.words.now c.loop-word.word-index 0 in
     let i = c.loop-c-2.c in
-    let h : i < channels img = omega (arith, c.channels-channels.ensures) in
+    let h : i < channels img = omega (arith, c.channels-channels.ensures.value) in
     let e = wire-read img i h c.wires_of-wires.result c.wires_of-wires.ensures in
     let l = c.loop-j in
     let join = c.if-j-length in
@@ -234,18 +234,18 @@ loop-j-preserved c =
 
 pub loop-c-2-preserved : goal.loop-c-2-preserved
 loop-c-2-preserved c =
-    let img = c.args.image.now in
-    let net = c.requires.accepted in
+    let img = c.args.netlist.image.now in
+    let net = (accepted c.args.netlist.image.now c.args.netlist.accepted) in
     let s = c.loop-word.s in
     let fit = c.loop-word.invariant.fits in
     let w = get_or c.args.words.now c.loop-word.word-index 0 in
     let i = c.loop-c-2.c in
-    let h : i < channels img = omega (arith, c.channels-channels.ensures) in
+    let h : i < channels img = omega (arith, c.channels-channels.ensures.value) in
     let e = wire-read img i h c.wires_of-wires.result c.wires_of-wires.ensures in
     let l = c.loop-j in
     let end : l.j ≡ (read_at c.wires_of-wires.result i).stations = omega arith in
     let gate = c.loop-n in
-    let n : gate.n ≡ nodes img = omega (arith, c.nodes-nodes.ensures, gate.invariant.0, c.loop-n-test.false) in
+    let n : gate.n ≡ nodes img = omega (arith, c.nodes-nodes.ensures.value, gate.invariant.0, c.loop-n-test.false) in
     let ends = ends_read img net s fit i h _ e w gate.fires (gate.invariant.2 ∙ ap (fires_below img w s) n) in
     let full = c.full-full.ensures ∙ full-read img net s fit i h _ e in
     let link = last_read img net s fit i h _ e w l.link (l.invariant.2 ∙ ap (link_in img s i) end) in
@@ -271,7 +271,7 @@ loop-c-2-preserved c =
 
 pub loop-word-preserved : goal.loop-word-preserved
 loop-word-preserved c =
-    let img = c.args.image.now in
+    let img = c.args.netlist.image.now in
     let s = c.loop-word.s in
     let made = c.loop-word.invariant in
     let w = get_or c.args.words.now c.loop-word.word-index 0 in
@@ -279,9 +279,9 @@ loop-word-preserved c =
     let words = a.words.now in
     let t = c.loop-word.word-index in
     let l = c.loop-c-2 in
-    let all : l.c ≡ channels img = omega (arith, c.channels-channels.ensures) in
+    let all : l.c ≡ channels img = omega (arith, c.channels-channels.ensures.value) in
     let moved = l.invariant.1
-    ∙ ap (λ (n : ℕ). moved_below img w s s.cycles (nodes_below img w s n) l.c (8 * l.c)) c.nodes-nodes.ensures
+    ∙ ap (λ (n : ℕ). moved_below img w s s.cycles (nodes_below img w s n) l.c (8 * l.c)) c.nodes-nodes.ensures.value
     ∙ ap (λ (k : ℕ). moved_below img w s s.cycles (nodes_below img w s (nodes img)) k (8 * k)) all in
     let e = cycle_turn img w s made.fits l.s moved in
     record {
@@ -289,6 +289,6 @@ loop-word-preserved c =
       state =
           e ∙ ap (state_after img w) made.state ∙ sym (after_next img a.state words t (omega arith))
           ∙ ap (λ (n : ℕ). after img a.state (take n words)) (sym (add-one t));
-      fits = rw e (fitting-next img c.requires.accepted w s made.fits (omega (arith, made.count)));
+      fits = rw e (fitting-next img (accepted c.args.netlist.image.now c.args.netlist.accepted) w s made.fits (omega (arith, made.count)));
       count = omega (arith, made.count);
     }

@@ -6,5 +6,5 @@ use Rattle.cycle.proofs.show.Given as goal
 
 abbrev pub invariant-loop-c : goal.invariant-loop-c
 invariant-loop-c l =
-    (l.c ≤ l.channels) × (l.letters ≡ table_over (λ k. (seen_at l.image l.state k).letter) l.c l.initial.letters)
-    × (l.values ≡ table_over (λ k. (seen_at l.image l.state k).value) l.c l.initial.values)
+    (l.c ≤ l.channels) × (l.letters ≡ table_over (λ k. (seen_at l.netlist.image.now l.state k).letter) l.c l.initial.letters)
+    × (l.values ≡ table_over (λ k. (seen_at l.netlist.image.now l.state k).value) l.c l.initial.values)

@@ -1,23 +1,26 @@
 -- `cycle::wires_of` meets its contract. The loop's invariant: the channels below c are read. Assumes nothing.
-use mathlib.Core.Path.{refl}
+use mathlib.Core.Path.{◌≡◌, refl}
 use Prim.Native.Nat.{◌≤◌, ◌<◌}
 use native.Mathlib.Numerals.{add-one}
 use native.Mathlib.Omega.{arith}
 use Rattle.laws.specs.Lists.{padded}
 use Rattle.laws.specs.Table.{table}
+use Rattle.netlist.specs.Image.{channels}
 use Rattle.cycle.specs.Parts.{wires_below}
 use Rattle.cycle.specs.PartsLaws.{wires_turn}
-use Rattle.cycle.proofs.wires_of.Goals.{After-channels-channels}
 use Rattle.cycle.proofs.wires_of.Goals as goal
-
-few : (c : After-channels-channels) → c.channels-channels.result ≤ 96
-few c = omega (arith, c.channels-channels.ensures, c.requires)
 
 pub loop-c-init : goal.loop-c-init
 unfolding padded table wires_below
-loop-c-init c = (omega arith, refl)
+loop-c-init c = refl
 
 pub loop-c-preserved : goal.loop-c-preserved
-loop-c-preserved c = let img = c.args.image.now in
-    let h : c.loop-c.c < 96 = omega (arith, few (goal.at.loop-c-preserved c).After-channels-channels) in
-    (omega arith, rw add-one (wires_turn img c.loop-c.c h c.loop-c.wires c.loop-c.invariant.1 c.channel_at.result c.channel_at.ensures))
+loop-c-preserved c =
+    let img = c.args.netlist.image.now in
+    let h : c.loop-c.c < 96 = omega (arith, c.channels-c-end.ensures.few) in
+    rw add-one (wires_turn img c.loop-c.c h c.loop-c.wires c.loop-c.invariant c.channel.result c.channel.ensures.value)
+
+pub returns : goal.returns
+returns c =
+    let e : c.loop-c.c ≡ channels c.args.netlist.image.now = omega (arith, c.channels-c-end.ensures.value) in
+    rw e at c.loop-c.invariant

@@ -1,7 +1,6 @@
 -- `engine::run` meets its contract. Assumes nothing.
 use Rattle.std.proofs.Common.{◌≡◌, refl, ℕ, ◌≤◌, ◌+◌, ◌-◌, length, take, sym, ap, ◌∙◌, arith, length-take}
 use Rattle.netlist.specs.Image.{nodes}
-use Rattle.netlist.specs.AcceptedLaws.{accepted}
 use Rattle.refusal.specs.NumberLaws.{number_positive}
 use Rattle.state.specs.declared.State.{State}
 use Rattle.cycle.specs.Cycle.{after}
@@ -43,9 +42,6 @@ pub slice_bounds-cycles-end : goal.slice_bounds-cycles-end
 slice_bounds-cycles-end c =
     let t = c.words_taken-taken.result.steps in
     omega (arith, few (goal.at.slice_bounds-cycles-end c).After-words_taken-taken, length-take t c.args.words.now)
-
-pub cycles-last-requires-clause-accepted : goal.cycles-last-requires-clause-accepted
-cycles-last-requires-clause-accepted c = accepted c.in-Ok.netlist.image.now c.in-Ok.netlist.accepted
 
 pub cycles-last-requires-clause-fitting : goal.cycles-last-requires-clause-fitting
 cycles-last-requires-clause-fitting c = c.in-Ok.ensures.fitting

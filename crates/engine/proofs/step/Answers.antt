@@ -2,7 +2,6 @@
 use Rattle.std.proofs.Common.{◌≡◌, refl, ◌≤◌, ◌+◌, length, sym, ap, ◌∙◌, arith}
 use Rattle.laws.specs.Table.{table_over}
 use Rattle.netlist.specs.Image.{channels}
-use Rattle.netlist.specs.AcceptedLaws.{accepted}
 use Rattle.refusal.specs.Number.{number}
 use Rattle.refusal.specs.NumberLaws.{number_positive}
 use Rattle.state.specs.declared.State.{State}
@@ -33,17 +32,11 @@ left c =
     let n = number_ok a.image.now a.state a.word (length a.letters.now) (length a.values.now) (sym c.in-Ok.ensures.number) in
     (omega (arith, c.in-Ok.ensures.fitting.cycled, n.1), (rw (same c) n.3, rw (same c) n.4))
 
-pub show-requires-clause-accepted : goal.show-requires-clause-accepted
-show-requires-clause-accepted c = accepted c.in-Ok.netlist.image.now c.in-Ok.netlist.accepted
-
 pub show-requires-clause-fitting : goal.show-requires-clause-fitting
 show-requires-clause-fitting c = c.in-Ok.ensures.fitting
 
 pub show-requires-clause-image_in_bounds : goal.show-requires-clause-image_in_bounds
 show-requires-clause-image_in_bounds c = (left (goal.at.show-requires-clause-image_in_bounds c).In-Ok).1
-
-pub cycles-requires-clause-accepted : goal.cycles-requires-clause-accepted
-cycles-requires-clause-accepted c = accepted c.in-Ok.netlist.image.now c.in-Ok.netlist.accepted
 
 pub cycles-requires-clause-fitting : goal.cycles-requires-clause-fitting
 cycles-requires-clause-fitting c = c.in-Ok.ensures.fitting

@@ -1,5 +1,0 @@
-use Rattle.strict.specs.Decoded.{KindsBelow}
-use Rattle.strict.proofs.kinds_of.Given as goal
-
-abbrev pub invariant-loop-n : goal.invariant-loop-n
-invariant-loop-n l = KindsBelow l.netlist.image.now l.n l.kinds
