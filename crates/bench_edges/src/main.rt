@@ -1,27 +1,31 @@
 // Runs the benches and prints what they answer. A line of cycles has each cycle's answer: the letter of
 // the leaving link with its value for T and R, and + if the incoming token was taken; then the records
-// as they are after the last. A refusal prints all four fields of the answer, and the records.
+// as they are after the last. A refusal prints its number, the 0, 0 and no that C is told, and the records.
 //
 // A record is printed as its count and its two places. Everything goes through the lent forms: the
 // trials lend a copy.
 #![tactic(auto)]
 
 use bench::{Answer, Records};
-use relay::Station;
+use refusal::Refusal;
+use relay::{Link, Station};
 use std::alloc::{AllocError, Global};
 use std::{fmt, io, slice};
 
-// What comes in a cycle: the valid bit, the value beside it, and the stop below.
+// What comes in a cycle: the link above, and the stop below.
 #[derive(Clone, Copy)]
 struct Cycle {
-    valid: bool,
-    value: i32,
+    link: Link,
     stop: bool,
 }
 
 impl Cycle {
+    // From a valid bit and the value beside it, which is not looked at where the bit is not set.
     fn new(valid: bool, value: i32, stop: bool) -> Cycle {
-        Cycle { valid, value, stop }
+        Cycle {
+            link: valid.then_some(value),
+            stop,
+        }
     }
 }
 
@@ -38,15 +42,15 @@ fn cycles(alloc: Global, tokens: &[u8], stops: &[u8]) -> Result<Vec<Cycle>, Allo
 
 // What is benched: a station, or nine records of which the first are a row.
 trait Bench {
-    fn run(&mut self, cycle: Cycle) -> Answer;
+    fn run(&mut self, cycle: Cycle) -> Result<Answer, Refusal>;
 
     fn records(&self) -> &[Station];
 }
 
 impl Bench for Station {
-    fn run(&mut self, cycle: Cycle) -> Answer {
-        let out = bench::station_trial(*self, cycle.valid, cycle.value, cycle.stop);
-        *self = out.station;
+    fn run(&mut self, cycle: Cycle) -> Result<Answer, Refusal> {
+        let out = bench::station_trial(*self, cycle.link, cycle.stop);
+        *self = out.after;
         out.answer
     }
 
@@ -62,15 +66,9 @@ struct Row {
 }
 
 impl Bench for Row {
-    fn run(&mut self, cycle: Cycle) -> Answer {
-        let out = bench::row_trial(
-            self.records,
-            self.length,
-            cycle.valid,
-            cycle.value,
-            cycle.stop,
-        );
-        self.records = out.records;
+    fn run(&mut self, cycle: Cycle) -> Result<Answer, Refusal> {
+        let out = bench::row_trial(self.records, self.length, cycle.link, cycle.stop);
+        self.records = out.after;
         out.answer
     }
 
@@ -81,20 +79,18 @@ impl Bench for Row {
 
 // An answer, to be printed.
 #[derive(Clone, Copy)]
-struct Shown(Answer);
+struct Shown(Result<Answer, Refusal>);
 
 impl fmt::Display for Shown {
     fn fmt<W: fmt::Write>(&self, f: &mut fmt::Formatter<W>) -> fmt::Result {
         let Answer {
-            number,
             letter,
             value,
             taken,
-        } = self.0;
-        if number != 0 {
-            let yes = if taken { "yes" } else { "no" };
-            return write!(f, "refused {number} with {letter}, {value} and {yes}");
-        }
+        } = match self.0 {
+            Ok(answer) => answer,
+            Err(refusal) => return write!(f, "{refusal} with 0, 0 and no"),
+        };
         let letter = char::from(letter);
         write!(f, "{letter}")?;
         if letter == 'T' || letter == 'R' || value != 0 {

@@ -9,9 +9,9 @@ use std::io;
 
 // Call i, and whether a token left the row.
 fn passes(records: &mut Records, i: u32) -> bool {
-    let out = bench::row_trial(*records, 8, i & 3 != 0, 5, i & 5 == 1);
-    *records = out.records;
-    out.answer.letter == b'T'
+    let out = bench::row_trial(*records, 8, (i & 3 != 0).then_some(5), i & 5 == 1);
+    *records = out.after;
+    matches!(out.answer, Ok(answer) if answer.letter == b'T')
 }
 
 fn main(rt: HostRuntime) -> io::Result<()> {

@@ -7,7 +7,8 @@
 // 2/1, 1/2, 3/1.
 #![tactic(auto)]
 
-use state::State;
+use refusal::Refusal;
+use state::{Refused, State};
 use std::io;
 
 // One count node, parameter 5.
@@ -28,11 +29,23 @@ impl<'a, P: Print> Bench<'a, P> {
 
 // ---- the engine's calls
 
+// The number of what stopped a call, 0 for nothing.
+fn number(stopped: Option<Refusal>) -> u8 {
+    stopped.map_or(0, Refusal::number)
+}
+
+// The number of an answer, and the state in it.
+fn told(answer: Result<State, Refused>) -> (u8, State) {
+    match answer {
+        Ok(state) => (0, state),
+        Err(refused) => (refused.refusal.number(), refused.state),
+    }
+}
+
 impl<'a, P: Print> Bench<'a, P> {
     // The number, and the fresh state.
     fn begun(self) -> (u8, State) {
-        let fresh = State::fresh(self.image);
-        (fresh.number, fresh.state)
+        told(State::fresh(self.image))
     }
 
     fn fresh(self) -> State {
@@ -48,14 +61,13 @@ impl<'a, P: Print> Bench<'a, P> {
         letters: &mut [u8],
         values: &mut [i32],
     ) -> (u8, State) {
-        let stepped = engine::step(self.image, state, word, letters, values);
-        (stepped.number, stepped.state)
+        told(engine::step(self.image, state, word, letters, values))
     }
 
     // The number of a run, its steps, and the state after it.
     fn ran(self, state: State, words: &[u64]) -> (u8, u32, State) {
         let ran = engine::run(self.image, state, words);
-        (ran.number, ran.steps, ran.state)
+        (number(ran.stopped), ran.steps, ran.state)
     }
 }
 
@@ -281,7 +293,7 @@ fn show_64(rt: &impl Print) -> io::Result<()> {
 
 fn main(rt: HostRuntime) -> io::Result<()> {
     let mut bytes = [0; 94];
-    input::read_to_end(&mut rt.stdin(), &mut bytes)?;
+    input::read_to_end(&mut rt.stdin(), &mut bytes).unwrap_or_else(|unread| unread.before);
     let figure4 = Bench::new(&rt, &bytes[..47]);
     let stations = Bench::new(&rt, &bytes[47..]);
     let counting = Bench::new(&rt, &COUNTING);

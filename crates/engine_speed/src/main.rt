@@ -5,6 +5,7 @@
 // for the one without stalls, `s` for the other.
 #![tactic(auto)]
 
+use refusal::Refusal;
 use state::State;
 use std::io;
 
@@ -89,9 +90,12 @@ fn firings(state: &State) -> u64 {
 
 // The steps and the number of a run from the fresh state, and the state after it.
 fn ran(image: &[u8], words: &[u64]) -> (u32, u8, State) {
-    let fresh = State::fresh(image);
-    let ran = engine::run(image, fresh.state, words);
-    (ran.steps, ran.number, ran.state)
+    let fresh = match State::fresh(image) {
+        Ok(state) => state,
+        Err(refused) => refused.state,
+    };
+    let ran = engine::run(image, fresh, words);
+    (ran.steps, ran.stopped.map_or(0, Refusal::number), ran.state)
 }
 
 fn show(rt: &impl Print, label: &str, image: &[u8], words: &[u64]) -> io::Result<()> {
@@ -107,7 +111,7 @@ fn show(rt: &impl Print, label: &str, image: &[u8], words: &[u64]) -> io::Result
 
 fn main(rt: HostRuntime) -> io::Result<()> {
     let mut bytes = [0; 803];
-    input::read_to_end(&mut rt.stdin(), &mut bytes)?;
+    input::read_to_end(&mut rt.stdin(), &mut bytes).unwrap_or_else(|unread| unread.before);
     let image = &bytes[..802];
     let asked = bytes[802];
     let mut words = vec![in rt.alloc(); 0; CYCLES]?;

@@ -17,7 +17,9 @@ fn is_accepted(image: &mut [u8], turn: u32) -> bool {
 
 fn main(rt: HostRuntime) -> io::Result<()> {
     let mut image = [0u8; 803];
-    let input = input::read_to_end(&mut rt.stdin(), &mut image).unwrap_or_else(|unread| unread.before);
+    let input = input::read_to_end(&mut rt.stdin(), &mut image).unwrap_or_else(
+        |unread| unread.before,
+    );
     let image = &mut image[..input.kept];
     let accepted = (0..TIMES).filter(|&turn| is_accepted(image, turn)).count();
     println!(rt; "{accepted} accepted")
