@@ -49,14 +49,16 @@ loop-c-preserved c =
     let l = c.loop-c in
     let h = there (goal.at.loop-c-preserved c).In-loop-c in
     let w = c.channel_at-channel in
-    let f : SFits w32 (get_or a.state.nodes w.result.from no_node).value
-    = search rules in
     let g : SFits w32 c.of-seen.result.value = search rules in
     let join = c.if-length-gt0 in
     let link : token join.link ≡ arriving (channel_in a.image.now a.state l.c) =
-    arriving-read a.image.now c.requires.accepted a.state fit l.c h w.result w.ensures _ join.link
-    (source_read a.image.now c.requires.accepted a.state fit l.c h w.result w.ensures _ _ c.then_some-link.ensures (to_z-of_z f))
-    (elim c.if-length-gt0.branch [ then-length-gt0 w ↦ inl (omega arith, w.link-is ∙ w.link-link.ensures) | else-length-gt0 w ↦ inr (omega arith, w.link-is) ]) in
+    arriving-read a.image.now c.requires.accepted a.state fit l.c h w.result w.ensures join.link
+    (elim c.if-length-gt0.branch [
+      | then-length-gt0 w' ↦ inl (omega arith, w'.link-is ∙ w'.link-link.ensures)
+      | else-length-gt0 w' ↦
+          let f : SFits w32 (get_or a.state.nodes w.result.from no_node).value = search rules in
+          inr (omega arith, source_read a.image.now c.requires.accepted a.state fit l.c h w.result w.ensures _ _ (w'.link-is ∙ w'.then_some-link.ensures) (to_z-of_z f))
+    ]) in
     let seen : c.of-seen.result ≡ seen_at a.image.now a.state l.c =
     c.of-seen.ensures
     ∙ seen_read a.image.now c.requires.accepted a.state fit l.c h w.result w.ensures join.link _ link
