@@ -83,11 +83,11 @@ module _ (img : List ℕ) (a : Accepted img) (s : State) (fit : Fitting img s) (
 
   -- what link r shows
   pub arriving-read :
-      (source link : Link) → token source ≡ link_in img s c 0
+      (link : Link)
       → ((0 < wire.stations) × (link ≡ link_of (held (get_or s.stations (8 * c + (wire.stations - 1)) no_station)))) ⊎
-      ((wire.stations ≤ 0) × (link ≡ source)) → token link ≡ arriving (channel_in img s c)
+      ((wire.stations ≤ 0) × (token link ≡ link_in img s c 0)) → token link ≡ arriving (channel_in img s c)
   unfolding channel_at station_at
-  arriving-read source link q =
+  arriving-read link =
       let r : wire.stations ≡ stations img c = ap (λ (w : Wire). w.stations) e in
       ⊎_elim
       (λ d.
@@ -96,7 +96,7 @@ module _ (img : List ℕ) (a : Accepted img) (s : State) (fit : Fitting img s) (
       ∙ link_above img s c (stations img c - 1) (omega arith) ∙ ap (link_in img s c) (sym k) ∙ link_last img s c)
       (λ d.
       let k : 0 ≡ stations img c = omega (arith, r, d.0) in
-      ap token d.1 ∙ q ∙ ap (link_in img s c) k ∙ link_last img s c)
+      d.1 ∙ ap (link_in img s c) k ∙ link_last img s c)
 
   -- what link j + 1 shows
   pub link_read :

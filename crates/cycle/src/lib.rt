@@ -82,12 +82,14 @@ pub fn cycles(netlist: Netlist, state: State, words: &[u64]) -> State
             let node = old.nodes[from];
             let queue = old.queues[c];
             let pending = old.pending[c] == 1;
-            let mut link = pending.then_some(node.value);
-            let mut stop = queue.full(channel.depth);
-            if 0 < length {
-                link = old.stations[8 * c + (length - 1)].link();
-                stop = old.stations[8 * c].full();
-            }
+            let (link, stop) = if 0 < length {
+                (
+                    old.stations[8 * c + (length - 1)].link(),
+                    old.stations[8 * c].full(),
+                )
+            } else {
+                (pending.then_some(node.value), queue.full(channel.depth))
+            };
             let input = queue.input(link);
             brought[3 * to + channel.port as usize] = input.unwrap_or(0);
             starved[to] = starved[to] | input.is_none();
@@ -118,11 +120,12 @@ pub fn cycles(netlist: Netlist, state: State, words: &[u64]) -> State
             let queue = old.queues[c];
             let pending = old.pending[c] == 1;
             let full = queue.full(channel.depth);
-            let mut link = pending.then_some(node.value);
             let mut stop = full;
             if 0 < length {
                 stop = old.stations[8 * c].full();
             }
+            // Behind the branch above: beside the load of its value this choice becomes a jump, a fifth slower.
+            let mut link = pending.then_some(node.value);
             for j in 0..length {
                 let station = old.stations[8 * c + j];
                 let mut below = full;
@@ -158,10 +161,11 @@ pub fn show(netlist: Netlist, state: State, letters: &mut [u8], values: &mut [i3
         let node = state.nodes[channel.from as usize];
         let queue = state.queues[at];
         let pending = state.pending[at] == 1;
-        let mut link = pending.then_some(node.value);
-        if 0 < length {
-            link = state.stations[8 * at + (length - 1)].link();
-        }
+        let link = if 0 < length {
+            state.stations[8 * at + (length - 1)].link()
+        } else {
+            pending.then_some(node.value)
+        };
         let seen = Reading::of(link, queue.full(channel.depth));
         letters[at] = seen.letter;
         values[at] = seen.value;

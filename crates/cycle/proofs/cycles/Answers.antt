@@ -116,23 +116,27 @@ loop-c-preserved c =
     let e = wire-read img i h c.wires_of-wires.result c.wires_of-wires.ensures in
     let inv = c.loop-c.invariant in
     let join = c.if-length-gt0 in
-    let f : SFits w32 (get_or s.nodes (read_at c.wires_of-wires.result i).from no_node).value = search rules in
     let g : SFits w32 c.unwrap_or.result = search rules in
-    let link : token join.link ≡ arriving (channel_in img s i) =
-    arriving-read img net s fit i h _ e _ join.link (source_read img net s fit i h _ e _ _ c.then_some-link.ensures (to_z-of_z f))
-    (elim c.if-length-gt0.branch [ then-length-gt0 w ↦ inl (omega arith, w.link-is ∙ w.link-link.ensures) | else-length-gt0 w ↦ inr (omega arith, w.link-is) ]) in
-    let stop : join.stop ≡ stop_in img s i 0 =
-    stop_read img net s fit i h _ e 0 join.stop
+    let link : token join.link.0 ≡ arriving (channel_in img s i) =
+    arriving-read img net s fit i h _ e join.link.0
     (elim c.if-length-gt0.branch [
-      | then-length-gt0 w ↦ inl (omega arith, w.stop-is ∙ w.full-stop-then-length-gt0.ensures ∙ first_place s i)
-      | else-length-gt0 w ↦ inr (omega arith, w.stop-is ∙ c.full-stop.ensures ∙ full-read img net s fit i h _ e)
+      | then-length-gt0 w ↦ inl (omega arith, ap (λ (p : Link × Bool). p.0) w.link-is ∙ w.link.ensures)
+      | else-length-gt0 w ↦
+          let f : SFits w32 (get_or s.nodes (read_at c.wires_of-wires.result i).from no_node).value = search rules in
+          inr (omega arith, source_read img net s fit i h _ e _ _ (ap (λ (p : Link × Bool). p.0) w.link-is ∙ w.then_some.ensures) (to_z-of_z f))
+    ]) in
+    let stop : join.link.1 ≡ stop_in img s i 0 =
+    stop_read img net s fit i h _ e 0 join.link.1
+    (elim c.if-length-gt0.branch [
+      | then-length-gt0 w ↦ inl (omega arith, ap (λ (p : Link × Bool). p.1) w.link-is ∙ w.full.ensures ∙ first_place s i)
+      | else-length-gt0 w ↦ inr (omega arith, ap (λ (p : Link × Bool). p.1) w.link-is ∙ w.full-else-length-gt0.ensures ∙ full-read img net s fit i h _ e)
     ]) in
     let input : c.input-input.result ≡ input_at img s i =
-    c.input-input.ensures ∙ input-read img net s fit i h _ e join.link link in (
+    c.input-input.ensures ∙ input-read img net s fit i h _ e join.link.0 link in (
       omega arith,
       starved_read img net s fit i h _ e _ inv.1 _ (sym (ap (λ (x : Link). is_some x) input) ∙ c.is_none.ensures),
       brought_read img net s fit i h _ e _ inv.2 _ (to_z-of_z g ∙ c.unwrap_or.ensures ∙ ap (λ (x : Link). unwrap_or x (pos 0)) input),
-      blocked-read img net s fit i h _ e _ inv.3 _ (c.blocked.ensures ∙ held-read img net s fit i h _ e join.stop stop),
+      blocked-read img net s fit i h _ e _ inv.3 _ (c.blocked.ensures ∙ held-read img net s fit i h _ e join.link.1 stop),
     )
 
 pub loop-n-init : goal.loop-n-init
@@ -203,7 +207,7 @@ loop-j-init c =
     let f : SFits w32 (get_or s.nodes (read_at c.wires_of-wires.result i).from no_node).value = search rules in (
       omega arith,
       l.invariant.1 ∙ ap (moved_below img w s s.cycles (nodes_below img w s c.nodes-nodes.result) i) (sym (add-zero (8 * i))),
-      source_read img net s fit i h _ e _ _ c.then_some-link-in-loop-c-2.ensures (to_z-of_z f),
+      source_read img net s fit i h _ e _ _ c.then_some-link.ensures (to_z-of_z f),
     )
 
 pub loop-j-preserved : goal.loop-j-preserved
@@ -229,7 +233,7 @@ loop-j-preserved c =
     ∙ station-read img net s fit i h _ e w l.j inside l.link join.below l.invariant.2 (rw add-one at stop) in (
       omega arith,
       row_turn img net s fit i h _ e w s.cycles (nodes_below img w s c.nodes-nodes.result) l.j inside l.s l.invariant.1 _ next,
-      link_read img net s fit i h _ e l.j inside c.link-link-in-loop-j.result c.link-link-in-loop-j.ensures,
+      link_read img net s fit i h _ e l.j inside c.link-link.result c.link-link.ensures,
     )
 
 pub loop-c-2-preserved : goal.loop-c-2-preserved
@@ -252,7 +256,7 @@ loop-c-2-preserved c =
     let stop : c.if-length-gt0-2.stop ≡ stop_in img s i 0 =
     stop_read img net s fit i h _ e 0 c.if-length-gt0-2.stop
     (elim c.if-length-gt0-2.branch [
-      | then-length-gt0-2 w' ↦ inl (omega arith, w'.stop-is ∙ w'.full-stop-then-length-gt0-2.ensures ∙ first_place s i)
+      | then-length-gt0-2 w' ↦ inl (omega arith, w'.stop-is ∙ w'.full-stop.ensures ∙ first_place s i)
       | else-length-gt0-2 w' ↦ inr (omega arith, w'.stop-is ∙ full)
     ]) in
     let ns = nodes_below img w s c.nodes-nodes.result in

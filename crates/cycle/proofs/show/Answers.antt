@@ -47,14 +47,16 @@ loop-c-preserved c =
     let l = c.loop-c in
     let h = there (goal.at.loop-c-preserved c).In-loop-c in
     let w = c.channel-channel in
-    let f : SFits w32 (get_or a.state.nodes w.result.from no_node).value
-    = search rules in
     let g : SFits w32 c.of-seen.result.value = search rules in
     let join = c.if-length-gt0 in
     let link : token join.link ≡ arriving (channel_in img a.state l.c) =
-    arriving-read img net a.state fit l.c h w.result w.ensures.value _ join.link
-    (source_read img net a.state fit l.c h w.result w.ensures.value _ _ c.then_some-link.ensures (to_z-of_z f))
-    (elim c.if-length-gt0.branch [ then-length-gt0 w ↦ inl (omega arith, w.link-is ∙ w.link-link.ensures) | else-length-gt0 w ↦ inr (omega arith, w.link-is) ]) in
+    arriving-read img net a.state fit l.c h w.result w.ensures.value join.link
+    (elim c.if-length-gt0.branch [
+      | then-length-gt0 w' ↦ inl (omega arith, w'.link-is ∙ w'.link-link.ensures)
+      | else-length-gt0 w' ↦
+          let f : SFits w32 (get_or a.state.nodes w.result.from no_node).value = search rules in
+          inr (omega arith, source_read img net a.state fit l.c h w.result w.ensures.value _ _ (w'.link-is ∙ w'.then_some-link.ensures) (to_z-of_z f))
+    ]) in
     let seen : c.of-seen.result ≡ seen_at img a.state l.c =
     c.of-seen.ensures
     ∙ seen_read img net a.state fit l.c h w.result w.ensures.value join.link _ link
