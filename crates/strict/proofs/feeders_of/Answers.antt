@@ -7,15 +7,6 @@ use Rattle.netlist.specs.Ports.{ports_below}
 use Rattle.strict.specs.Decoded.{feeders_below}
 use Rattle.strict.proofs.feeders_of.Goals as goal
 
-pub loop-c-init : goal.loop-c-init
-unfolding ports_below feeders_below
-loop-c-init c = refl
-
-pub bounds-feeders-from : goal.bounds-feeders-from
-bounds-feeders-from c =
-    let p = c.channel-channel.ensures.placed (omega (arith, c.channels-c-end.ensures.value)) in
-    omega (arith, c.from.ensures, c.from-in-loop-c.ensures, p.to, p.port)
-
 pub loop-c-preserved : goal.loop-c-preserved
 unfolding channel_at ports_below feeders_below
 loop-c-preserved c = rw (add-one, c.from.ensures, c.from-in-loop-c.ensures, c.channel-channel.ensures.value, c.loop-c.invariant)

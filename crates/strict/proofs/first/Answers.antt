@@ -17,10 +17,6 @@ use Rattle.strict.specs.Strict.{strict_cycle}
 use Rattle.strict.specs.Decoded.{values_at}
 use Rattle.strict.proofs.first.Goals as goal
 
-pub loop-n-init : goal.loop-n-init
-unfolding padded table
-loop-n-init c = refl
-
 pub loop-n-preserved : goal.loop-n-preserved
 unfolding core_at
 loop-n-preserved c =
@@ -28,9 +24,3 @@ loop-n-preserved c =
     let f : SFits w32 c.core.result.parameter = search rules in
     let h : c.loop-n.n < 65 = omega (arith, c.nodes-n-end.ensures.few) in
     rw (to_z-of_z f, c.from.ensures, c.core.ensures, c.loop-n.invariant, add-one) (padded-table (parameter img) c.loop-n.n 65 (pos 0) h)
-
-pub returns : goal.returns
-unfolding values_at strict_cycle
-returns c =
-    let e : c.loop-n.n ≡ nodes c.args.netlist.image.now = omega (arith, c.nodes-n-end.ensures.value) in
-    rw (c.loop-n.invariant, e)

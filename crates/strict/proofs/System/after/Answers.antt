@@ -10,19 +10,9 @@ use Rattle.laws.specs.TableLaws.{over_next}
 use Rattle.strict.specs.System.{value_after, values_after}
 use Rattle.strict.proofs.System.after.Goals as goal
 
-pub loop-n-init : goal.loop-n-init
-unfolding table_over table
-loop-n-init c = refl
-
 pub loop-n-preserved : goal.loop-n-preserved
 loop-n-preserved c =
     let a = c.args in
     let f = value_after a.self.now a.values.now in
     let h : c.loop-n.n < length a.values.now = omega (arith, a.self.now.few_nodes) in
     rw (to_z-of_z (told c.next.result c.next.type_inv)) (over_next f a.values.now h c.loop-n.invariant c.next.ensures)
-
-pub returns : goal.returns
-unfolding values_after
-returns c =
-    let e : c.loop-n.n ≡ c.args.self.now.nodes = omega arith in
-    rw (c.loop-n.invariant, e)
