@@ -1,31 +1,40 @@
 -- Laws of the benches: each number from its cause, what the steps by value answer, and that a refusal changes nothing. Assumes nothing.
-use Rattle.std.specs.Prelude.{Bool, not, ◌&&◌, ◌||◌, ◌≡◌, ℕ, ◌<◌, ◌≤◌, ℤ, take}
+use Rattle.std.specs.Prelude.{Bool, not, ◌&&◌, ◌||◌, ◌≡◌, ℕ, ◌<◌, ◌≤◌, take, Result, Ok, Err, is_some}
 use Rattle.std.proofs.Math.Bool.{true, false, or-true}
-use Rattle.std.proofs.Common.{true≢false, sym, arith, lt-ltb, ltb-false, length-take, take-append-drop, get_or-take}
+use Rattle.std.proofs.Common.{true≢false, ne_eqb, sym, arith, lt-ltb, ltb-false, length-take, take-append-drop, get_or-take}
 use mathlib.Core.List.{List, [], ◌∷◌, map}
 use Rattle.std.proofs.Math.Logic.{⊎_elim}
 use Rattle.std.proofs.Math.Path.{refl, ap}
 use Rattle.std.proofs.Math.Dec.{eqb, ltb}
 use Rattle.std.proofs.Math.ListN.{length, get_or}
 use Rattle.std.proofs.lemmas.List.{length-map}
-use Rattle.std.specs.Bool.{then_some}
+use Rattle.std.specs.Result.{is_ok}
 use Rattle.laws.specs.Below.{all_below}
 use Rattle.laws.specs.BelowLaws.{all_same}
 use Rattle.laws.specs.Cases.{true_or_false, or_right}
 use Rattle.laws.specs.Choice.{◌if◌else◌}
-use Rattle.laws.specs.Lists.{holds_two, one_if}
+use Rattle.laws.specs.Lists.{holds_two}
 use Rattle.relay.specs.declared.Station.{Station}
 use Rattle.relay.specs.declared.Row.{Row}
 use Rattle.relay.specs.declared.RowCycle.{RowCycle}
 use Rattle.relay.specs.Link.{Link, token, link_of}
-use Rattle.relay.specs.LinkLaws.{link_of-take, token_if, passing_flag}
+use Rattle.relay.specs.LinkLaws.{link_of-take, passing-holds}
 use Rattle.relay.specs.Station.{held, station_of, place_after}
 use Rattle.relay.specs.Row.{stopped, leaving, row_after}
 use Rattle.relay.specs.RowLaws.{length-after}
 use Rattle.relay.specs.RowCycle.{places, row_cycle, no_station}
 use Rattle.bench.specs.declared.Answer.{Answer}
-use Rattle.bench.specs.Bench.{fits, bench_number, refusal, reply, bench_answer, bench_after, BenchDone}
+use Rattle.refusal.specs.declared.Refusal.{Refusal}
+use Rattle.refusal.specs.NumberLaws.{number_positive}
+use Rattle.bench.specs.Bench.{Told, told, fits, bench_number, refusal, reply, bench_answer, bench_after, BenchDone}
 use Rattle.bench.specs.ByValue.{station_benched, row_benched}
+
+-- ---- an answer
+-- it is refused exactly if it has a number
+pub refused_number : (a : Result Answer Refusal) → is_ok a ≡ false → eqb (told a).number 0 ≡ false
+unfolding refusal
+refused_number (Ok answer) e = absurd (true≢false e)
+refused_number (Err r) e = let p = number_positive r in ne_eqb _ 0 (λ z. absurd (omega (arith, z, p)))
 
 -- ---- any row
 -- the second of two causes is enough
@@ -38,22 +47,22 @@ unfolding bench_number
 long_number row h = either 15 _ (eqb (length row) 0) _ (lt-ltb _ (length row) (omega arith))
 
 pub bench_long :
-    (row : List Station) (valid : Bool) (value : ℤ) (stop : Bool) → 8 < length row → BenchDone row valid value stop (refusal 15) row
+    (row : List Station) (link : Link) (stop : Bool) → 8 < length row → BenchDone row link stop (refusal 15) row
 unfolding bench_answer bench_after
-bench_long row valid value stop h = record { answered = rw (long_number row h); left = rw (long_number row h) }
+bench_long row link stop h = record { answered = rw (long_number row h); left = rw (long_number row h) }
 
-module _ (row : List Station) (valid : Bool) (value : ℤ) (stop : Bool) where
+module _ (row : List Station) (link : Link) (stop : Bool) where
   -- it has as many records as before
-  pub length_bench : length (bench_after row valid value stop) ≡ length row
+  pub length_bench : length (bench_after row link stop) ≡ length row
   unfolding bench_after
   length_bench = kept (eqb (bench_number row) 0)
     where
-      kept : (t : Bool) → length (map station_of (row_after (one_if valid value) (map held row) stop) if t else row) ≡ length row
+      kept : (t : Bool) → length (map station_of (row_after (token link) (map held row) stop) if t else row) ≡ length row
       kept true = rw (length-map, length-after, length-map)
       kept false = refl
 
   -- and is the row itself if the bench is refused
-  pub bench_stays : eqb (bench_answer row valid value stop).number 0 ≡ false → row ≡ bench_after row valid value stop
+  pub bench_stays : eqb (bench_answer row link stop).number 0 ≡ false → row ≡ bench_after row link stop
   unfolding bench_answer bench_after reply
   bench_stays e =
       ⊎_elim
@@ -62,34 +71,33 @@ module _ (row : List Station) (valid : Bool) (value : ℤ) (stop : Bool) where
       (true_or_false (eqb (bench_number row) 0))
 
 -- ---- one station
-module _ (s : Station) (valid : Bool) (value : ℤ) (stop : Bool) where
+module _ (s : Station) (link : Link) (stop : Bool) where
   one : bench_number (s ∷ []) ≡ (21 if not (fits s) else 0)
   unfolding bench_number all_below
   one = refl
 
-  pub station_refused : fits s ≡ false → record { station = s; answer = refusal 21 } ≡ station_benched s valid value stop
+  pub station_refused : fits s ≡ false → record { after = s; answer = refusal 21 } ≡ station_benched s link stop
   unfolding station_benched bench_answer bench_after
   station_refused e = let n : bench_number (s ∷ []) ≡ 21 = rw e at one in rw n
 
   -- what `station_step` works out
   pub station_worked :
-      fits s ≡ true → (link : Link) → link ≡ then_some valid value
+      fits s ≡ true
       → record {
-        station = station_of (place_after (token link) (held s) stop);
-        answer = reply (link_of (held s)) stop (valid && not (holds_two (held s)));
-      } ≡ station_benched s valid value stop
+        after = station_of (place_after (token link) (held s) stop);
+        answer = reply (link_of (held s)) stop (is_some link && not (holds_two (held s)));
+      } ≡ station_benched s link stop
   unfolding station_benched bench_answer bench_after leaving stopped row_after
-  station_worked e link l =
+  station_worked e =
       let n : bench_number (s ∷ []) ≡ 0 = rw e at one in
-      let taken = passing_flag valid (holds_two (held s)) value in
-      rw (n, l, token_if valid value, link_of-take)
-      (ap (λ (t : Bool). record { station = station_of (place_after (one_if valid value) (held s) stop); answer = reply (link_of (held s)) stop t })
-      (sym taken))
+      rw (n, link_of-take)
+      (ap (λ (t : Bool). record { after = station_of (place_after (token link) (held s) stop); answer = reply (link_of (held s)) stop t })
+      (sym (passing-holds link (holds_two (held s)))))
 
   -- what it makes of the station is what the row bench makes of the row of it alone,
-  pub station-done : let b = station_benched s valid value stop in BenchDone (s ∷ []) valid value stop b.answer (b.station ∷ [])
+  pub station-done : let b = station_benched s link stop in BenchDone (s ∷ []) link stop b.answer (b.after ∷ [])
   unfolding station_benched
-  station-done = record { answered = refl; left = single (bench_after (s ∷ []) valid value stop) (length_bench (s ∷ []) valid value stop) }
+  station-done = record { answered = refl; left = single (bench_after (s ∷ []) link stop) (length_bench (s ∷ []) link stop) }
     where
       single : (l : List Station) → length l ≡ 1 → get_or l 0 no_station ∷ [] ≡ l
       single [] e = absurd (omega arith)
@@ -98,18 +106,18 @@ module _ (s : Station) (valid : Bool) (value : ℤ) (stop : Bool) where
 
   -- and the other way round
   pub done-station :
-      (answer : Answer) (after : Station) → BenchDone (s ∷ []) valid value stop answer (after ∷ [])
-      → let b = station_benched s valid value stop in (answer ≡ b.answer) × (after ≡ b.station)
+      (answer : Told) (after : Station) → BenchDone (s ∷ []) link stop answer (after ∷ [])
+      → let b = station_benched s link stop in (answer ≡ b.answer) × (after ≡ b.after)
   unfolding station_benched
   done-station answer after d = (d.answered, ap (λ l. get_or l 0 no_station) d.left)
 
   -- a station that is refused stays
-  pub station_stays : let b = station_benched s valid value stop in eqb b.answer.number 0 ≡ false → s ≡ b.station
+  pub station_stays : let b = station_benched s link stop in eqb b.answer.number 0 ≡ false → s ≡ b.after
   unfolding station_benched
-  station_stays e = ap (λ l. get_or l 0 no_station) (bench_stays (s ∷ []) valid value stop e)
+  station_stays e = ap (λ l. get_or l 0 no_station) (bench_stays (s ∷ []) link stop e)
 
 -- ---- a row by value: the first n of its records
-module _ (row : Row) (long : length row.stations ≡ 8) (n : ℕ) (valid : Bool) (value : ℤ) (stop : Bool) where
+module _ (row : Row) (long : length row.stations ≡ 8) (n : ℕ) (link : Link) (stop : Bool) where
   abbrev first : List Station
   first = take n row.stations
 
@@ -127,7 +135,7 @@ module _ (row : Row) (long : length row.stations ≡ 8) (n : ℕ) (valid : Bool)
             ap fits (get_or-take n row.stations i no_station h),
       )
 
-  pub row-none : eqb n 0 || ltb 8 n ≡ true → record { row = row; answer = refusal 15 } ≡ row_benched row n valid value stop
+  pub row-none : eqb n 0 || ltb 8 n ≡ true → record { after = row; answer = refusal 15 } ≡ row_benched row n link stop
   unfolding row_benched bench_answer bench_after
   row-none e =
       ⊎_elim
@@ -143,7 +151,7 @@ module _ (row : Row) (long : length row.stations ≡ 8) (n : ℕ) (valid : Bool)
 
     pub row_refused :
         all_below (λ i. fits (get_or row.stations i no_station)) n ≡ false
-        → record { row = row; answer = refusal 21 } ≡ row_benched row n valid value stop
+        → record { after = row; answer = refusal 21 } ≡ row_benched row n link stop
     unfolding row_benched bench_answer bench_after
     row_refused e =
         let k : bench_number first ≡ 21 = rw (some, e) at (first-number (ltb-false 8 n short)) in
@@ -152,9 +160,9 @@ module _ (row : Row) (long : length row.stations ≡ 8) (n : ℕ) (valid : Bool)
     -- what `row_step` works out
     pub row_worked :
         all_below (λ i. fits (get_or row.stations i no_station)) n ≡ true
-        → (link : Link) → link ≡ then_some valid value → (cycle : RowCycle) → cycle ≡ row_cycle row n link stop
-        → record { row = cycle.row; answer = reply cycle.leaving stop cycle.taken } ≡ row_benched row n valid value stop
+        → (cycle : RowCycle) → cycle ≡ row_cycle row n link stop
+        → record { after = cycle.row; answer = reply cycle.leaving stop cycle.taken } ≡ row_benched row n link stop
     unfolding row_benched bench_answer bench_after row_cycle places
-    row_worked e link l cycle c =
+    row_worked e cycle c =
         let k : bench_number first ≡ 0 = rw (some, e) at (first-number (ltb-false 8 n short)) in
-        rw (c, l, token_if valid value, short, k)
+        rw (c, short, k)

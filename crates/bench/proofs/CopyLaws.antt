@@ -1,5 +1,5 @@
 -- Laws of a row that is copied out and stored back: what both copies leave together. Assumes nothing.
-use Rattle.std.specs.Prelude.{Bool, true, false, ◌≡◌, ℕ, zero, suc, ◌≤◌, eqb, ℤ}
+use Rattle.std.specs.Prelude.{Bool, true, false, ◌≡◌, ℕ, zero, suc, ◌≤◌, eqb}
 use mathlib.Core.List.{List, ◌++◌, append-nil}
 use Rattle.std.proofs.Math.Logic.{⊎_elim}
 use Rattle.std.proofs.Math.Bool.{and-true}
@@ -14,11 +14,11 @@ use Rattle.laws.specs.Below.{all_below}
 use Rattle.laws.specs.Cases.{true_or_false}
 use Rattle.relay.specs.declared.Station.{Station}
 use Rattle.relay.specs.RowCycle.{no_station}
-use Rattle.bench.specs.declared.Answer.{Answer}
-use Rattle.bench.specs.declared.RowBenched.{RowBenched}
-use Rattle.bench.specs.Bench.{bench_answer, bench_after}
+use Rattle.relay.specs.declared.Row.{Row}
+use Rattle.relay.specs.Link.{Link}
+use Rattle.bench.specs.Bench.{Told, bench_answer, bench_after}
 use Rattle.bench.proofs.BenchLaws.{bench_long, length_bench, bench_stays}
-use Rattle.bench.specs.ByValue.{row_benched}
+use Rattle.bench.specs.ByValue.{BenchedTold, row_benched}
 use Rattle.bench.specs.Copy.{copies, empty_row, record_at, copied}
 
 -- a test of the first n records, one by one
@@ -39,19 +39,19 @@ copied_all from to = rw (take_all (length from) from (omega arith))
 copied_front : (front rest to : List Station) → length front ≡ length to → copied (front ++ rest) (length to) to ≡ front
 copied_front front rest to long = rw (drop-length, append-nil, ← long, take-append_seam)
 
-module _ (records : List Station) (valid : Bool) (value : ℤ) (stop : Bool) where
+module _ (records : List Station) (link : Link) (stop : Bool) where
   -- the row by value after the bench
-  abbrev made : ℕ → RowBenched
-  made m = row_benched (record { stations = copied records m empty_row.stations }) (length records) valid value stop
+  abbrev made : ℕ → BenchedTold Row
+  made m = row_benched (record { stations = copied records m empty_row.stations }) (length records) link stop
 
   abbrev Right : ℕ → Type 0
   Right m =
-      ((made m).answer ≡ bench_answer records valid value stop) × (copied (made m).row.stations m records ≡ bench_after records valid value stop)
+      ((made m).answer ≡ bench_answer records link stop) × (copied (made m).after.stations m records ≡ bench_after records link stop)
 
   long_right : ltb 8 (length records) ≡ true → Right 0
   unfolding row_benched
   long_right h =
-      let d = bench_long records valid value stop (ltb-true 8 (length records) h) in
+      let d = bench_long records link stop (ltb-true 8 (length records) h) in
       rw h (d.answered, d.left)
 
   short_right : ltb 8 (length records) ≡ false → Right (length records)
@@ -61,11 +61,11 @@ module _ (records : List Station) (valid : Bool) (value : ℤ) (stop : Bool) whe
       let st = copied records n empty_row.stations in
       let e : take n st ≡ records =
       ap (take n) (copied_all records empty_row.stations) ∙ take-append_seam records (drop n empty_row.stations) in
-      let after = bench_after records valid value stop in
+      let after = bench_after records link stop in
       rw h (
-        ap (λ (l : List Station). bench_answer l valid value stop) e,
-        ap (λ (l : List Station). copied (bench_after l valid value stop ++ drop n st) n records) e
-            ∙ copied_front after (drop n st) records (length_bench records valid value stop),
+        ap (λ (l : List Station). bench_answer l link stop) e,
+        ap (λ (l : List Station). copied (bench_after l link stop ++ drop n st) n records) e
+            ∙ copied_front after (drop n st) records (length_bench records link stop),
       )
 
   -- what `row_bench` answers, and what it stores, is what the definition says of the records
@@ -78,5 +78,5 @@ module _ (records : List Station) (valid : Bool) (value : ℤ) (stop : Bool) whe
       (true_or_false (ltb 8 (length records)))
 
   -- nothing is stored of a bench that is refused
-  pub copied_stays : eqb (made (copies (length records))).answer.number 0 ≡ false → records ≡ bench_after records valid value stop
-  copied_stays e = bench_stays records valid value stop (ap (λ (a : Answer). eqb a.number 0) (sym bench_copied.0) ∙ e)
+  pub copied_stays : eqb (made (copies (length records))).answer.number 0 ≡ false → records ≡ bench_after records link stop
+  copied_stays e = bench_stays records link stop (ap (λ (a : Told). eqb a.number 0) (sym bench_copied.0) ∙ e)

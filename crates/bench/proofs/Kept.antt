@@ -1,5 +1,5 @@
 -- What a bench that is accepted keeps: number 21, and every token, in order. Assumes nothing.
-use Rattle.std.specs.Prelude.{Bool, false, not, ◌||◌, ◌≡◌, refl, ℕ, ◌<◌, ◌≤◌, eqb, ℤ}
+use Rattle.std.specs.Prelude.{Bool, false, not, ◌||◌, ◌≡◌, refl, ℕ, ◌<◌, ◌≤◌, eqb, ℤ, pos, None, Some, unwrap_or}
 use Rattle.std.proofs.Math.Bool.{true}
 use mathlib.Core.List.{List, [], ◌∷◌, ◌++◌, map}
 use Rattle.std.proofs.Math.Logic.{⊎_elim}
@@ -12,12 +12,11 @@ use Rattle.laws.specs.BelowLaws.{all_at, all_from}
 use Rattle.laws.specs.Cases.{and_left, lt-or-ge}
 use Rattle.laws.specs.ChoiceLaws.{past}
 use Rattle.laws.specs.Lists.{holds, one_if, padded, zero_from}
-use Rattle.laws.specs.ListsLaws.{one_if_few}
 use Rattle.laws.specs.TableLaws.{get_d_any}
 use Rattle.laws.specs.TestsLaws.{le_iff}
 use Rattle.relay.specs.declared.Station.{Station}
-use Rattle.relay.specs.Link.{passing}
-use Rattle.relay.specs.LinkLaws.{letter-passing}
+use Rattle.relay.specs.Link.{Link, token, passing}
+use Rattle.relay.specs.LinkLaws.{letter-passing, token_few}
 use Rattle.relay.specs.Station.{held, station_of, clear}
 use Rattle.relay.specs.StationLaws.{held_of}
 use Rattle.relay.specs.Row.{stopped, leaving, row_after, contents}
@@ -35,11 +34,11 @@ fits_of (x ∷ y ∷ []) h = refl
 fits_of (x ∷ y ∷ z ∷ place) h = absurd (not-suc-le-zero {n = 0} (omega arith))
 
 -- what is taken is what passes
-taken_passing : (valid stop : Bool) (x : ℤ) → passing (one_if valid x) stop ≡ one_if (holds (passing (one_if valid x) stop)) x
-taken_passing true true x = refl
-taken_passing true false x = refl
-taken_passing false true x = refl
-taken_passing false false x = refl
+taken_passing : (link : Link) (stop : Bool) → passing (token link) stop ≡ one_if (holds (passing (token link) stop)) (unwrap_or link (pos 0))
+taken_passing (Some x) true = refl
+taken_passing (Some x) false = refl
+taken_passing None true = refl
+taken_passing None false = refl
 
 held_all : (places : List (List ℤ)) → map held (map station_of places) ≡ places
 held_all [] = refl
@@ -57,25 +56,25 @@ module _ (row : List Station) (accepted : bench_number row ≡ 0) where
       let all = all_below (λ i. fits (get_or row i no_station)) (length row) in
       not-false all (past 20 0 (not all) (past 14 _ (eqb (length row) 0 || ltb 8 (length row)) accepted).1).0
 
-module _ (row : List Station) (valid : Bool) (value : ℤ) (stop : Bool) (accepted : bench_number row ≡ 0) where
+module _ (row : List Station) (link : Link) (stop : Bool) (accepted : bench_number row ≡ 0) where
   abbrev incoming : List ℤ
-  incoming = one_if valid value
+  incoming = token link
 
-  after : bench_after row valid value stop ≡ map station_of (row_after incoming (map held row) stop)
+  after : bench_after row link stop ≡ map station_of (row_after incoming (map held row) stop)
   unfolding bench_after
   after = rw accepted
 
   -- first in, first out: the token that leaves, and then those of the row after the cycle, are those before it, and then the one that was taken
   pub bench_fifo :
-      let a = bench_answer row valid value stop in
-      one_if (eqb a.letter 84) a.value ++ contents (map held (bench_after row valid value stop)) ≡
-      contents (map held row) ++ one_if a.taken value
+      let a = bench_answer row link stop in
+      one_if (eqb a.letter 84) a.value ++ contents (map held (bench_after row link stop)) ≡
+      contents (map held row) ++ one_if a.taken (unwrap_or link (pos 0))
   unfolding bench_answer reply
   bench_fifo =
       let places = map held row in
-      let link = leaving incoming places in
-      let few : length link ≤ 1 = rw leaving-at (link_few incoming places (length places) (one_if_few valid value)) in
-      rw (accepted, after, held_all, letter-passing link stop few, ← (taken_passing valid (stopped places stop) value))
+      let shown = leaving incoming places in
+      let few : length shown ≤ 1 = rw leaving-at (link_few incoming places (length places) (token_few link)) in
+      rw (accepted, after, held_all, letter-passing shown stop few, ← (taken_passing link (stopped places stop)))
       (row_fifo incoming places stop)
 
   -- no place holds more than two tokens
@@ -94,14 +93,14 @@ module _ (row : List Station) (valid : Bool) (value : ℤ) (stop : Bool) (accept
       (lt-or-ge j (length row))
 
   -- "A place that then holds no token is 0": the row that is left is accepted again
-  pub bench_again : bench_number (bench_after row valid value stop) ≡ 0
+  pub bench_again : bench_number (bench_after row link stop) ≡ 0
   unfolding bench_number
   bench_again =
-      let left = bench_after row valid value stop in
+      let left = bench_after row link stop in
       let places = row_after incoming (map held row) stop in
       let all : all_below (λ i. fits (get_or left i no_station)) (length row) ≡ true =
       all_from (λ i. fits (get_or left i no_station)) (length row) (λ i h.
       let l : i < length (map station_of places) = rw (length-map, length-after, length-map) h in
       rw (after, get_d_any (map station_of places) i no_station (station_of []) l, get_or-map station_of places i [])
-      (fits_of (get_or places i []) (row_few incoming (map held row) stop (one_if_few valid value) places_few i))) in
-      rw (length_bench row valid value stop, (accepted_long row accepted), all)
+      (fits_of (get_or places i []) (row_few incoming (map held row) stop (token_few link) places_few i))) in
+      rw (length_bench row link stop, (accepted_long row accepted), all)

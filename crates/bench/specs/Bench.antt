@@ -1,11 +1,13 @@
 -- "Stations on their own": what a bench answers, and what the row that it is lent holds after it. The station bench is the row bench on a row of one
 -- record.
-use Rattle.std.specs.Prelude.{Bool, false, not, ◌&&◌, ◌||◌, List, map, ◌≡◌, ℕ, eqb, leb, ltb, ℤ, pos, length, get_or}
+use Rattle.std.specs.Prelude.{Bool, false, not, ◌&&◌, ◌||◌, List, map, ◌≡◌, ℕ, eqb, leb, ltb, ℤ, pos, length, get_or, Result, Ok, Err}
 use Rattle.laws.specs.Below.{all_below}
 use Rattle.laws.specs.Choice.{◌if◌else◌}
-use Rattle.laws.specs.Lists.{holds, one_if}
+use Rattle.laws.specs.Lists.{holds}
+use Rattle.refusal.specs.declared.Refusal.{Refusal}
+use Rattle.refusal.specs.Number.{number}
 use Rattle.relay.specs.declared.Station.{Station}
-use Rattle.relay.specs.Link.{Link, link_of, passing, reading}
+use Rattle.relay.specs.Link.{Link, token, link_of, passing, reading}
 use Rattle.relay.specs.Station.{held, station_of, clear}
 use Rattle.relay.specs.Row.{stopped, leaving, row_after}
 use Rattle.relay.specs.RowCycle.{no_station}
@@ -24,23 +26,34 @@ bench_number row =
     21 if not (all_below (λ i. fits (get_or row i no_station)) (length row)) else
     0
 
+-- what an answer tells: the number of its refusal, 0 where there is none, and what stands beside it
+pub record Told : Type 0 where
+  pub number : ℕ
+  pub letter : ℕ
+  pub value : ℤ
+  pub taken : Bool
+
 -- a bench that is refused answers its number beside 0, 0 and no
-unfoldable pub refusal : ℕ → Answer
+unfoldable pub refusal : ℕ → Told
 refusal number = record { number = number; letter = 0; value = pos 0; taken = false }
 
 -- one that is not: "the letter and value of the leaving link, and whether the incoming token was taken"
-unfoldable pub reply : Link → Bool → Bool → Answer
+unfoldable pub reply : Link → Bool → Bool → Told
 reply link stop taken = record { number = 0; letter = (reading link stop).letter; value = (reading link stop).value; taken = taken }
 
+abbrev pub told : Result Answer Refusal → Told
+told (Ok answer) = record { number = 0; letter = answer.letter; value = answer.value; taken = answer.taken }
+told (Err r) = refusal (number r)
+
 -- `row` is lent, in the order in which a token goes through it
-module _ (row : List Station) (valid : Bool) (value : ℤ) (stop : Bool) where
-  -- "The incoming bit is the row's link 0": it shows the value while it is set
+module _ (row : List Station) (link : Link) (stop : Bool) where
+  -- "The incoming bit is the row's link 0"
   abbrev incoming : List ℤ
-  incoming = one_if valid value
+  incoming = token link
 
   -- the answer. "The leaving link is valid while the last record holds a token, and stopped as given." A token is taken if it passes link 0, "which
   -- is no when none came"
-  unfoldable pub bench_answer : Answer
+  unfoldable pub bench_answer : Told
   bench_answer =
       reply (link_of (leaving incoming (map held row))) stop (holds (passing incoming (stopped (map held row) stop)))
       if eqb (bench_number row) 0 else refusal (bench_number row)
@@ -51,6 +64,6 @@ module _ (row : List Station) (valid : Bool) (value : ℤ) (stop : Bool) where
   bench_after = map station_of (row_after incoming (map held row) stop) if eqb (bench_number row) 0 else row
 
 -- a call that was lent `row` and left `after`: what the benches' contracts ensure
-pub record BenchDone (row : List Station) (valid : Bool) (value : ℤ) (stop : Bool) (answer : Answer) (after : List Station) : Type 0 where
-  pub answered : answer ≡ bench_answer row valid value stop
-  pub left : after ≡ bench_after row valid value stop
+pub record BenchDone (row : List Station) (link : Link) (stop : Bool) (answer : Told) (after : List Station) : Type 0 where
+  pub answered : answer ≡ bench_answer row link stop
+  pub left : after ≡ bench_after row link stop

@@ -1,31 +1,30 @@
 -- The definitions here, computed: a table of readings and eleven more cycles through a station, rows of 1, 2 and 8, and what is refused.
-use Rattle.std.specs.Prelude.{true, false, List, [], ◌∷◌, ◌++◌, ◌≡◌, refl, ℕ, eqb, ltb, ℤ, pos, negsuc, replicate}
+use Rattle.std.specs.Prelude.{true, false, List, [], ◌∷◌, ◌++◌, ◌≡◌, refl, ℕ, eqb, ℤ, pos, negsuc, replicate, None, Some}
 use Rattle.laws.specs.Below.{all_below}
 use Rattle.laws.specs.Choice.{◌if◌else◌}
 use Rattle.laws.specs.Lists.{padded, zero_from}
 use Rattle.relay.specs.declared.Station.{Station}
-use Rattle.relay.specs.Link.{letter, reading}
+use Rattle.relay.specs.Link.{Link, letter, reading}
 use Rattle.relay.specs.Station.{held, station_of, place_after}
 use Rattle.relay.specs.Row.{stopped, leaving, row_after}
-use Rattle.bench.specs.declared.Answer.{Answer}
 use Rattle.bench.specs.declared.Records.{Records}
-use Rattle.bench.specs.Bench.{fits, bench_number, refusal, reply, bench_answer, bench_after}
+use Rattle.bench.specs.Bench.{Told, fits, bench_number, refusal, reply, bench_answer, bench_after}
 use Rattle.bench.specs.ByValue.{station_benched, row_benched, records_benched}
 
 -- the answers T, R, I and S, where no token was taken; the same where one was
-abbrev t : ℕ → Answer
+abbrev t : ℕ → Told
 t x = record { number = 0; letter = 84; value = pos x; taken = false }
 
-abbrev r : ℕ → Answer
+abbrev r : ℕ → Told
 r x = record { number = 0; letter = 82; value = pos x; taken = false }
 
-abbrev i : Answer
+abbrev i : Told
 i = record { number = 0; letter = 73; value = pos 0; taken = false }
 
-abbrev s : Answer
+abbrev s : Told
 s = record { number = 0; letter = 83; value = pos 0; taken = false }
 
-abbrev took : Answer → Answer
+abbrev took : Told → Told
 took a = record { number = a.number; letter = a.letter; value = a.value; taken = true }
 
 -- a record: its tokens, and how many it counts
@@ -35,20 +34,20 @@ station a b n = record { tokens = a ∷ b ∷ []; count = n }
 abbrev none : Station
 none = station (pos 0) (pos 0) 0
 
--- a row through many cycles. For each: the token that comes in (0 stands for none, with a 9 beside the valid bit), and the stop below
-abbrev offered : ℕ → ℤ
-offered x = pos (9 if eqb x 0 else x)
+-- a row through many cycles. For each: the token that comes in, of which 0 stands for none, and the stop below
+abbrev offered : ℕ → Link
+offered x = None if eqb x 0 else Some (pos x)
 
-abbrev answers : List Station → List ℕ → List ℕ → List Answer
+abbrev answers : List Station → List ℕ → List ℕ → List Told
 answers row [] stops = []
 answers row (x ∷ xs) [] = []
 answers row (x ∷ xs) (stop ∷ stops) =
-    bench_answer row (ltb 0 x) (offered x) (eqb stop 1) ∷ answers (bench_after row (ltb 0 x) (offered x) (eqb stop 1)) xs stops
+    bench_answer row (offered x) (eqb stop 1) ∷ answers (bench_after row (offered x) (eqb stop 1)) xs stops
 
 abbrev row_left : List Station → List ℕ → List ℕ → List Station
 row_left row [] stops = row
 row_left row (x ∷ xs) [] = row
-row_left row (x ∷ xs) (stop ∷ stops) = row_left (bench_after row (ltb 0 x) (offered x) (eqb stop 1)) xs stops
+row_left row (x ∷ xs) (stop ∷ stops) = row_left (bench_after row (offered x) (eqb stop 1)) xs stops
 
 -- ---- one station
 -- 004, table 1: "I T R R T T I S R T" where its valid bits and stops are those of the station's leaving link
@@ -72,15 +71,15 @@ unfolding
     bench_after
 figure6 = (refl, refl)
 
--- a full station takes none, though one leaves it; two tokens of 0 are two tokens; the value has no effect where no token comes
+-- a full station takes none, though one leaves it; two tokens of 0 are two tokens
 edges :
     let one : ℤ → List Station = λ x. station x (pos 0) 1 ∷ [] in
     let full : List Station = station (pos 4) (pos 5) 2 ∷ [] in
     let zeros : List Station = station (pos 0) (pos 0) 2 ∷ [] in
-    (bench_answer full true (pos 6) false ≡ t 4) × (bench_after full true (pos 6) false ≡ one (pos 5)) ×
-    (bench_answer zeros true (pos 6) true ≡ r 0) × (bench_after zeros true (pos 6) false ≡ one (pos 0)) ×
-    (bench_answer (one (negsuc 3)) false (pos 6) true ≡ record { number = 0; letter = 82; value = negsuc 3; taken = false }) ×
-    (bench_after (one (negsuc 3)) false (pos 6) true ≡ one (negsuc 3))
+    (bench_answer full (Some (pos 6)) false ≡ t 4) × (bench_after full (Some (pos 6)) false ≡ one (pos 5)) ×
+    (bench_answer zeros (Some (pos 6)) true ≡ r 0) × (bench_after zeros (Some (pos 6)) false ≡ one (pos 0)) ×
+    (bench_answer (one (negsuc 3)) None true ≡ record { number = 0; letter = 82; value = negsuc 3; taken = false }) ×
+    (bench_after (one (negsuc 3)) None true ≡ one (negsuc 3))
 unfolding
     letter reading held station_of place_after stopped leaving row_after padded all_below zero_from fits bench_number refusal reply bench_answer
     bench_after
@@ -103,10 +102,10 @@ two = (refl, refl)
 eight :
     let one : List Station = replicate 7 (station (pos 1) (pos 0) 1) in
     let full : List Station = replicate 7 (station (pos 1) (pos 2) 2) in
-    (bench_answer (one ++ (station (pos 3) (pos 0) 1 ∷ [])) true (pos 4) false ≡ took (t 3)) ×
-    (bench_after (one ++ (station (pos 3) (pos 0) 1 ∷ [])) true (pos 4) false ≡ station (pos 4) (pos 0) 1 ∷ one) ×
-    (bench_answer (full ++ (station (pos 3) (pos 4) 2 ∷ [])) true (pos 5) false ≡ t 3) ×
-    (bench_after (full ++ (station (pos 3) (pos 4) 2 ∷ [])) true (pos 5) false ≡ full ++ (station (pos 4) (pos 0) 1 ∷ []))
+    (bench_answer (one ++ (station (pos 3) (pos 0) 1 ∷ [])) (Some (pos 4)) false ≡ took (t 3)) ×
+    (bench_after (one ++ (station (pos 3) (pos 0) 1 ∷ [])) (Some (pos 4)) false ≡ station (pos 4) (pos 0) 1 ∷ one) ×
+    (bench_answer (full ++ (station (pos 3) (pos 4) 2 ∷ [])) (Some (pos 5)) false ≡ t 3) ×
+    (bench_after (full ++ (station (pos 3) (pos 4) 2 ∷ [])) (Some (pos 5)) false ≡ full ++ (station (pos 4) (pos 0) 1 ∷ []))
 unfolding
     letter reading held station_of place_after stopped leaving row_after padded all_below zero_from fits bench_number refusal reply bench_answer
     bench_after
@@ -122,9 +121,9 @@ refusals :
     (bench_number [] ≡ 15) × (bench_number (replicate 9 none) ≡ 15) × (bench_number (replicate 9 over) ≡ 15) ×
     (bench_number (over ∷ []) ≡ 21) × (bench_number (behind ∷ []) ≡ 21) × (bench_number (before ∷ []) ≡ 21) ×
     (bench_number (none ∷ none ∷ behind ∷ []) ≡ 21) × (bench_number (replicate 8 none) ≡ 0) ×
-    (bench_answer (replicate 9 none) true (pos 1) true ≡ record { number = 15; letter = 0; value = pos 0; taken = false }) ×
-    (bench_answer (behind ∷ []) true (pos 1) true ≡ record { number = 21; letter = 0; value = pos 0; taken = false }) ×
-    (bench_after (replicate 9 none) true (pos 1) false ≡ replicate 9 none) × (bench_after (none ∷ behind ∷ []) true (pos 1) false ≡ none ∷ behind ∷ [])
+    (bench_answer (replicate 9 none) (Some (pos 1)) true ≡ record { number = 15; letter = 0; value = pos 0; taken = false }) ×
+    (bench_answer (behind ∷ []) (Some (pos 1)) true ≡ record { number = 21; letter = 0; value = pos 0; taken = false }) ×
+    (bench_after (replicate 9 none) (Some (pos 1)) false ≡ replicate 9 none) × (bench_after (none ∷ behind ∷ []) (Some (pos 1)) false ≡ none ∷ behind ∷ [])
 unfolding all_below zero_from fits bench_number refusal bench_answer bench_after
 refusals = (refl, refl, refl, refl, refl, refl, refl, refl, refl, refl, refl, refl)
 
@@ -133,12 +132,12 @@ refusals = (refl, refl, refl, refl, refl, refl, refl, refl, refl, refl, refl, re
 by_value :
     let one : Station = station (pos 1) (pos 0) 1 in
     let nine : Records = record { stations = one ∷ one ∷ station (pos 1) (pos 2) 7 ∷ replicate 6 one } in
-    (station_benched one true (pos 2) true ≡ record { station = station (pos 1) (pos 2) 2; answer = took (r 1) }) ×
-    ((row_benched (record { stations = replicate 8 one }) 9 true (pos 2) true).answer ≡ refusal 15) ×
-    (records_benched nine 2 true (pos 2) false ≡
-    record { records = record { stations = station (pos 2) (pos 0) 1 ∷ one ∷ station (pos 1) (pos 2) 7 ∷ replicate 6 one }; answer = took (t 1) }) ×
-    (records_benched nine 3 true (pos 2) false ≡ record { records = nine; answer = refusal 21 }) ×
-    (records_benched nine 12 true (pos 2) false ≡ record { records = nine; answer = refusal 15 })
+    (station_benched one (Some (pos 2)) true ≡ record { after = station (pos 1) (pos 2) 2; answer = took (r 1) }) ×
+    ((row_benched (record { stations = replicate 8 one }) 9 (Some (pos 2)) true).answer ≡ refusal 15) ×
+    (records_benched nine 2 (Some (pos 2)) false ≡
+    record { after = record { stations = station (pos 2) (pos 0) 1 ∷ one ∷ station (pos 1) (pos 2) 7 ∷ replicate 6 one }; answer = took (t 1) }) ×
+    (records_benched nine 3 (Some (pos 2)) false ≡ record { after = nine; answer = refusal 21 }) ×
+    (records_benched nine 12 (Some (pos 2)) false ≡ record { after = nine; answer = refusal 15 })
 unfolding
     letter reading held station_of place_after stopped leaving row_after padded all_below zero_from fits bench_number refusal reply bench_answer
     bench_after

@@ -5,33 +5,26 @@
 pub mod steps;
 
 ghost use Rattle.std.specs.Prelude.{[], ◌∷◌, ◌≡◌};
-ghost use Rattle.bench.specs.Bench.{BenchDone};
-ghost use Rattle.bench.specs.ByValue.{station_benched, records_benched};
+ghost use Rattle.bench.specs.Bench.{BenchDone, told};
+ghost use Rattle.bench.specs.ByValue.{benched_told, station_benched, records_benched};
 
-use relay::{Row, Station};
+use refusal::Refusal;
+use relay::{Link, Row, Station};
 
-// What a bench answers: 0 or the number that refuses it; the letter and the value of the link that
-// leaves the row; and whether the incoming token was taken. A refused bench answers 0, 0 and no.
-#[derive(Clone, Copy)]
+// What a bench answers: the letter and the value of the link that leaves the row, and whether the
+// incoming token was taken.
+#[derive(Clone, Copy, Debug, PartialEq, Eq)]
 pub struct Answer {
-    pub number: u8,
     pub letter: u8,
     pub value: i32,
     pub taken: bool,
 }
 
-// A station after a bench, and its answer.
+// What was benched as it is after the bench, and the answer. One that is refused is as it was.
 #[derive(Clone, Copy)]
-pub struct StationBenched {
-    pub station: Station,
-    pub answer: Answer,
-}
-
-// A row after a bench, and its answer.
-#[derive(Clone, Copy)]
-pub struct RowBenched {
-    pub row: Row,
-    pub answer: Answer,
+pub struct Benched<T> {
+    pub after: T,
+    pub answer: Result<Answer, Refusal>,
 }
 
 // Nine records, one more than a row may have.
@@ -44,22 +37,14 @@ impl Records {
     pub const COUNT: usize = 9;
 }
 
-// Nine records after a bench of the first of them, and its answer.
-#[derive(Clone, Copy)]
-pub struct RecordsBenched {
-    pub records: Records,
-    pub answer: Answer,
-}
-
-// One cycle of a station that is lent, from the incoming valid bit with its value and the stop below.
+// One cycle of a station that is lent, from the incoming link and the stop below.
 // 21 if its count is over 2 or an unused token is not 0: then it stays as it was.
-pub fn station_bench(s: &mut Station, valid: bool, value: i32, stop: bool) -> Answer
-    ensures { BenchDone (s.old ∷ []) valid value stop result (s.new ∷ []) }
+pub fn station_bench(s: &mut Station, link: Link, stop: bool) -> Result<Answer, Refusal>
+    ensures { BenchDone (s.old ∷ []) link stop (told result) (s.new ∷ []) }
 {
-    let old = *s;
-    let out = steps::station_step(old, valid, value, stop);
-    if steps::accepted(out.answer) {
-        *s = out.station;
+    let out = steps::station_step(*s, link, stop);
+    if out.answer.is_ok() {
+        *s = out.after;
     }
     out.answer
 }
@@ -69,48 +54,39 @@ pub fn station_bench(s: &mut Station, valid: bool, value: i32, stop: bool) -> An
 //
 // The row is copied out, worked by value, and stored back only if it was accepted. A row that is too
 // long is not copied: its number is 15 whatever it holds.
-pub fn row_bench(row: &mut [Station], valid: bool, value: i32, stop: bool) -> Answer
-    ensures { BenchDone row.old valid value stop result row.new }
+pub fn row_bench(row: &mut [Station], link: Link, stop: bool) -> Result<Answer, Refusal>
+    ensures { BenchDone row.old link stop (told result) row.new }
 {
     let n = row.len();
     let m = steps::copies(n);
     let mut copy = steps::empty_row().stations;
     copy[..m].copy_from_slice(&row[..m]);
-    let out = steps::row_step(Row { stations: copy }, n, valid, value, stop);
-    if steps::accepted(out.answer) {
-        row[..m].copy_from_slice(&out.row.stations[..m]);
+    let out = steps::row_step(Row { stations: copy }, n, link, stop);
+    if out.answer.is_ok() {
+        row[..m].copy_from_slice(&out.after.stations[..m]);
     }
     out.answer
 }
 
 // The station bench for a caller that has its station by value: a copy is lent.
-pub fn station_trial(station: Station, valid: bool, value: i32, stop: bool) -> StationBenched
-    ensures { result ≡ station_benched station valid value stop }
+pub fn station_trial(station: Station, link: Link, stop: bool) -> Benched<Station>
+    ensures { benched_told result ≡ station_benched station link stop }
 {
-    let mut lent = station;
-    let answer = station_bench(&mut lent, valid, value, stop);
-    StationBenched {
-        station: lent,
-        answer,
-    }
+    let mut after = station;
+    let answer = station_bench(&mut after, link, stop);
+    Benched { after, answer }
 }
 
 // The row bench for a caller that has its records by value: the first `length` of a copy are lent, all
 // nine if `length` is more, and the others stay as they were.
-pub fn row_trial(
-    records: Records,
-    length: usize,
-    valid: bool,
-    value: i32,
-    stop: bool,
-) -> RecordsBenched
-    ensures { result ≡ records_benched records length valid value stop }
+pub fn row_trial(records: Records, length: usize, link: Link, stop: bool) -> Benched<Records>
+    ensures { benched_told result ≡ records_benched records length link stop }
 {
     let mut lent = records.stations;
     let m = steps::lent(length);
-    let answer = row_bench(&mut lent[..m], valid, value, stop);
-    RecordsBenched {
-        records: Records { stations: lent },
+    let answer = row_bench(&mut lent[..m], link, stop);
+    Benched {
+        after: Records { stations: lent },
         answer,
     }
 }

@@ -1,11 +1,12 @@
 // The benches by value: what is done with records that were copied out of a reference.
-ghost use Rattle.std.specs.Prelude.{◌≡◌, ◌≤◌, min, eqb};
+ghost use Rattle.std.specs.Prelude.{◌≡◌, ◌≤◌, Ok, min};
 ghost use Rattle.laws.specs.Below.{all_below};
-ghost use Rattle.bench.specs.Bench.{fits, refusal, reply};
-ghost use Rattle.bench.specs.ByValue.{station_benched, row_benched};
+ghost use Rattle.bench.specs.Bench.{fits, told, reply};
+ghost use Rattle.bench.specs.ByValue.{benched_told, station_benched, row_benched};
 ghost use Rattle.bench.specs.Copy.{copies, record_at, empty_row};
 
-use crate::{Answer, Records, RowBenched, StationBenched};
+use crate::{Answer, Benched, Records};
+use refusal::Refusal;
 use relay::{Link, Reading, Row, Station};
 
 // Number 21 of a record: a count within the depth, and 0 in every place that holds no token.
@@ -16,56 +17,34 @@ fn fits(station: Station) -> bool
     (station.count <= Station::DEPTH) & station.clear()
 }
 
-// What a bench that is refused answers.
-#[tactic(auto, unfolding(crate::specs::Bench::refusal))]
-fn refusal(number: u8) -> Answer
-    ensures { result ≡ refusal number }
-{
-    Answer {
-        number,
-        letter: 0,
-        value: 0,
-        taken: false,
-    }
-}
-
 // What one that is not refused answers, from the link that leaves the row.
 #[tactic(auto, unfolding(crate::specs::Bench::reply))]
 fn reply(link: Link, stop: bool, taken: bool) -> Answer
-    ensures { result ≡ reply link stop taken }
+    ensures { told (Ok result) ≡ reply link stop taken }
 {
     let reading = Reading::of(link, stop);
     Answer {
-        number: 0,
         letter: reading.letter,
         value: reading.value,
         taken,
     }
 }
 
-// Whether it was not refused.
-pub(crate) fn accepted(answer: Answer) -> bool
-    ensures { result ≡ eqb answer.number 0 }
-{
-    answer.number == 0
-}
-
 // The station bench.
-pub fn station_step(station: Station, valid: bool, value: i32, stop: bool) -> StationBenched
-    ensures { result ≡ station_benched station valid value stop }
+pub fn station_step(station: Station, link: Link, stop: bool) -> Benched<Station>
+    ensures { benched_told result ≡ station_benched station link stop }
 {
     if !fits(station) {
-        return StationBenched {
-            station,
-            answer: refusal(21),
+        return Benched {
+            after: station,
+            answer: Err(Refusal::Misfit),
         };
     }
-    let link = valid.then_some(value);
-    let taken = valid & !station.full();
+    let taken = link.is_some() & !station.full();
     let answer = reply(station.link(), stop, taken);
-    StationBenched {
-        station: station.after(link, stop),
-        answer,
+    Benched {
+        after: station.after(link, stop),
+        answer: Ok(answer),
     }
 }
 
@@ -78,25 +57,26 @@ fn row_fits(row: Row, n: usize) -> bool
 }
 
 // The row bench of the first n records.
-pub fn row_step(row: Row, n: usize, valid: bool, value: i32, stop: bool) -> RowBenched
-    ensures { result ≡ row_benched row n valid value stop }
+pub fn row_step(row: Row, n: usize, link: Link, stop: bool) -> Benched<Row>
+    ensures { benched_told result ≡ row_benched row n link stop }
 {
     if (n == 0) | ((Row::LENGTH as usize) < n) {
-        return RowBenched {
-            row,
-            answer: refusal(15),
+        return Benched {
+            after: row,
+            answer: Err(Refusal::Row),
         };
     }
     if !row_fits(row, n) {
-        return RowBenched {
-            row,
-            answer: refusal(21),
+        return Benched {
+            after: row,
+            answer: Err(Refusal::Misfit),
         };
     }
-    let cycle = row.cycle(n as u8, valid.then_some(value), stop);
-    RowBenched {
-        row: cycle.row,
-        answer: reply(cycle.leaving, stop, cycle.taken),
+    let cycle = row.cycle(n as u8, link, stop);
+    let answer = reply(cycle.leaving, stop, cycle.taken);
+    Benched {
+        after: cycle.row,
+        answer: Ok(answer),
     }
 }
 

@@ -8,181 +8,123 @@
 
 use bench::{Answer, Records};
 use relay::Station;
-use std::io;
+use std::alloc::{AllocError, Global};
+use std::{fmt, io, slice};
 
-// ---- printing
-
-// A minus sign if the value is negative, and how far it lies from 0.
-fn print_signed(rt: &impl Print, value: i32) -> io::Result<()> {
-    if value < 0 {
-        print!(rt; "-")?;
-    }
-    rt.print(output::magnitude(value))
+// What comes in a cycle: the valid bit, the value beside it, and the stop below.
+#[derive(Clone, Copy)]
+struct Cycle {
+    valid: bool,
+    value: i32,
+    stop: bool,
 }
 
-fn print_letter(rt: &impl Print, letter: u8) -> io::Result<()> {
-    if letter == b'T' {
-        print!(rt; " T")
-    } else if letter == b'R' {
-        print!(rt; " R")
-    } else if letter == b'I' {
-        print!(rt; " I")
-    } else if letter == b'S' {
-        print!(rt; " S")
-    } else {
-        print!(rt; " ?")
+impl Cycle {
+    fn new(valid: bool, value: i32, stop: bool) -> Cycle {
+        Cycle { valid, value, stop }
     }
 }
 
-// The value of a T or an R, and any other that is not 0.
-fn print_value(rt: &impl Print, letter: u8, value: i32) -> io::Result<()> {
-    let shown = (letter == b'T') | (letter == b'R');
-    if shown | (value != 0) {
-        print_signed(rt, value)?;
+// Cycles from two texts: a digit is an incoming token, '.' is none, and '1' is a stop. Beside no token
+// stands -2, which has no effect.
+fn cycles(alloc: Global, tokens: &[u8], stops: &[u8]) -> Result<Vec<Cycle>, AllocError> {
+    let mut cycles = Vec::new(alloc);
+    for (token, stop) in tokens.iter().zip(stops) {
+        let digit = token.checked_sub(b'0');
+        cycles.push(Cycle::new(digit.is_some(), digit.map_or(-2, i32::from), *stop == b'1'))?;
     }
-    Ok(())
+    Ok(cycles)
 }
 
-fn print_taken(rt: &impl Print, taken: bool) -> io::Result<()> {
-    if taken {
-        print!(rt; "+")?;
-    }
-    Ok(())
+// What is benched: a station, or nine records of which the first are a row.
+trait Bench {
+    fn run(&mut self, cycle: Cycle) -> Answer;
+
+    fn records(&self) -> &[Station];
 }
 
-// All four fields of a refusal.
-fn print_refusal(rt: &impl Print, answer: Answer) -> io::Result<()> {
-    let number = answer.number;
-    let letter = answer.letter;
-    print!(rt; " refused {number} with {letter}, ")?;
-    print_signed(rt, answer.value)?;
-    if answer.taken {
-        print!(rt; " and yes")
-    } else {
-        print!(rt; " and no")
+impl Bench for Station {
+    fn run(&mut self, cycle: Cycle) -> Answer {
+        let out = bench::station_trial(*self, cycle.valid, cycle.value, cycle.stop);
+        *self = out.station;
+        out.answer
     }
-}
 
-fn print_answer(rt: &impl Print, answer: Answer) -> io::Result<()> {
-    if answer.number != 0 {
-        print_refusal(rt, answer)
-    } else {
-        print_letter(rt, answer.letter)?;
-        print_value(rt, answer.letter, answer.value)?;
-        print_taken(rt, answer.taken)
+    fn records(&self) -> &[Station] {
+        slice::from_ref(self)
     }
 }
 
-fn print_station(rt: &impl Print, station: Station) -> io::Result<()> {
-    let first = station.tokens[0];
-    let second = station.tokens[1];
-    let count = station.count;
-    print!(rt; " {count}(")?;
-    print_signed(rt, first)?;
-    print!(rt; ",")?;
-    print_signed(rt, second)?;
-    print!(rt; ")")
-}
-
-fn print_stations(rt: &impl Print, records: Records) -> io::Result<()> {
-    for i in 0..Records::COUNT {
-        let station = records.stations[i];
-        print_station(rt, station)?;
-    }
-    Ok(())
-}
-
-fn print_records(rt: &impl Print, records: Records) -> io::Result<()> {
-    print!(rt; " :")?;
-    print_stations(rt, records)?;
-    println!(rt;)
-}
-
-// ---- cycles, as two texts: a digit is an incoming token, '.' is none, and '1' is a stop
-
-fn token_at(tokens: &[u8], i: usize) -> u8 {
-    if i < tokens.len() {
-        return tokens[i];
-    }
-    b'.'
-}
-
-// The value that stands beside the valid bit: -2 where none comes, which has no effect.
-fn value_of(token: u8) -> i32 {
-    if token < b'0' {
-        return -2;
-    }
-    (token - b'0') as i32
-}
-
-fn station_cycle(rt: &impl Print, station: Station, token: u8, stop: u8) -> io::Result<Station> {
-    let out = bench::station_trial(station, token != b'.', value_of(token), stop == b'1');
-    let answer = out.answer;
-    print_answer(rt, answer)?;
-    Ok(out.station)
-}
-
-// A station that starts empty, after all cycles.
-fn station_after(rt: &impl Print, tokens: &[u8], stops: &[u8]) -> io::Result<Station> {
-    let mut station = Station::empty();
-    for i in 0..tokens.len() {
-        station = station_cycle(rt, station, token_at(tokens, i), token_at(stops, i))?;
-    }
-    Ok(station)
-}
-
-fn station_cycles(rt: &impl Print, label: &str, tokens: &[u8], stops: &[u8]) -> io::Result<()> {
-    print!(rt; "{label}")?;
-    let after = station_after(rt, tokens, stops)?;
-    print!(rt; " :")?;
-    print_station(rt, after)?;
-    println!(rt;)
-}
-
-fn row_cycle(
-    rt: &impl Print,
+#[derive(Clone, Copy)]
+struct Row {
     records: Records,
     length: usize,
-    token: u8,
-    stop: u8,
-) -> io::Result<Records> {
-    let out = bench::row_trial(
-        records,
-        length,
-        token != b'.',
-        value_of(token),
-        stop == b'1',
-    );
-    let answer = out.answer;
-    print_answer(rt, answer)?;
-    Ok(out.records)
 }
 
-fn row_after(
-    rt: &impl Print,
-    length: usize,
-    records: Records,
-    tokens: &[u8],
-    stops: &[u8],
-) -> io::Result<Records> {
-    let mut row = records;
-    for i in 0..tokens.len() {
-        row = row_cycle(rt, row, length, token_at(tokens, i), token_at(stops, i))?;
+impl Bench for Row {
+    fn run(&mut self, cycle: Cycle) -> Answer {
+        let out = bench::row_trial(
+            self.records,
+            self.length,
+            cycle.valid,
+            cycle.value,
+            cycle.stop,
+        );
+        self.records = out.records;
+        out.answer
     }
-    Ok(row)
+
+    fn records(&self) -> &[Station] {
+        &self.records.stations
+    }
 }
 
-fn row_cycles(
+// An answer, to be printed.
+#[derive(Clone, Copy)]
+struct Shown(Answer);
+
+impl fmt::Display for Shown {
+    fn fmt<W: fmt::Write>(&self, f: &mut fmt::Formatter<W>) -> fmt::Result {
+        let Answer {
+            number,
+            letter,
+            value,
+            taken,
+        } = self.0;
+        if number != 0 {
+            let yes = if taken { "yes" } else { "no" };
+            return write!(f, "refused {number} with {letter}, {value} and {yes}");
+        }
+        let letter = char::from(letter);
+        write!(f, "{letter}")?;
+        if letter == 'T' || letter == 'R' || value != 0 {
+            write!(f, "{value}")?;
+        }
+        if taken {
+            write!(f, "+")?;
+        }
+        Ok(())
+    }
+}
+
+fn show<B: Bench + Drop>(
     rt: &impl Print,
     label: &str,
-    length: usize,
-    records: Records,
-    tokens: &[u8],
-    stops: &[u8],
+    mut bench: B,
+    cycles: &[Cycle],
 ) -> io::Result<()> {
-    print!(rt; "{label}")?;
-    let after = row_after(rt, length, records, tokens, stops)?;
-    print_records(rt, after)
+    print!(rt; "{label}:")?;
+    for &cycle in cycles {
+        let answer = Shown(bench.run(cycle));
+        print!(rt; " {answer}")?;
+    }
+    print!(rt; " :")?;
+    for record in bench.records() {
+        let [first, second] = record.tokens;
+        let count = record.count;
+        print!(rt; " {count}({first},{second})")?;
+    }
+    println!(rt;)
 }
 
 // ---- records
@@ -203,137 +145,117 @@ fn all(station: Station) -> Records {
 // All empty but for one, which holds no token and has a 7 in its second place.
 fn misfit(at: usize) -> Records {
     let mut records = all(Station::empty());
-    if at < Records::COUNT {
-        records.stations[at] = station(0, 0, 7);
+    if let Some(record) = records.stations.get_mut(at) {
+        *record = station(0, 0, 7);
     }
     records
 }
 
-// ---- single calls
-
-fn show_station(
-    rt: &impl Print,
-    label: &str,
-    count: u8,
-    first: i32,
-    second: i32,
-    valid: bool,
-    value: i32,
-    stop: bool,
-) -> io::Result<()> {
-    let out = bench::station_trial(station(count, first, second), valid, value, stop);
-    let answer = out.answer;
-    let after = out.station;
-    print!(rt; "{label}")?;
-    print_answer(rt, answer)?;
-    print!(rt; " :")?;
-    print_station(rt, after)?;
-    println!(rt;)
+fn empty_row(length: usize) -> Row {
+    Row {
+        records: all(Station::empty()),
+        length,
+    }
 }
 
-fn show_row(rt: &impl Print, label: &str, length: usize, records: Records) -> io::Result<()> {
-    row_cycles(rt, label, length, records, b"5", b"0")
-}
+// ---- many cycles, and single ones
 
-fn show_stations(rt: &impl Print) -> io::Result<()> {
-    show_station(
-        rt,
-        "no token comes, with a value beside it:",
-        1,
-        4,
-        0,
-        false,
-        9,
-        true,
-    )?;
-    show_station(rt, "two tokens of 0:", 2, 0, 0, false, 9, true)?;
-    show_station(
-        rt,
-        "full, not stopped, a token offered:",
-        2,
-        4,
-        5,
-        true,
-        6,
-        false,
-    )?;
-    show_station(
-        rt,
-        "the ends of the range:",
-        1,
-        -2147483648,
-        0,
-        true,
-        2147483647,
-        true,
-    )?;
-    show_station(rt, "a count of 3:", 3, 4, 5, true, 6, false)?;
-    show_station(rt, "a count of 255:", 255, 4, 5, true, 6, false)?;
-    show_station(rt, "one token and an unused 5:", 1, 4, 5, true, 6, false)?;
-    show_station(rt, "no token and an unused -1:", 0, -1, 0, false, 0, false)?;
-    show_station(
-        rt,
-        "no token and an unused 5 behind:",
-        0,
-        0,
-        5,
-        false,
-        0,
-        true,
-    )
-}
-
-fn show_rows(rt: &impl Print) -> io::Result<()> {
-    show_row(rt, "a row of 0:", 0, all(Station::empty()))?;
-    show_row(rt, "a row of 9:", 9, all(Station::empty()))?;
-    show_row(rt, "a row of 0 of misfits:", 0, all(station(3, 4, 5)))?;
-    show_row(rt, "a row of 9 of misfits:", 9, all(station(3, 4, 5)))?;
-    show_row(
-        rt,
-        "more than nine are asked for:",
-        4294967304,
-        all(station(1, 4, 0)),
-    )?;
-    show_row(rt, "a row of 8 of misfits:", 8, all(station(3, 4, 5)))?;
-    show_row(rt, "a row of 8, the last a misfit:", 8, misfit(7))?;
-    show_row(rt, "a row of 8, the first a misfit:", 8, misfit(0))?;
-    show_row(rt, "a row of 8, a misfit behind it:", 8, misfit(8))?;
-    show_row(rt, "a row of 8 full ones:", 8, all(station(2, 4, 3)))?;
-    show_row(
-        rt,
-        "a row of 8 with a token each:",
-        8,
-        all(station(1, 4, 0)),
-    )
-}
-
-fn main(rt: HostRuntime) -> io::Result<()> {
-    station_cycles(&rt, "004, table 1:", b"123....4..", b"0011000110")?;
-    station_cycles(&rt, "000, figure 6:", b"1.2.34.5677", b"00001010100")?;
-    row_cycles(
-        &rt,
-        "a row of 1, figure 6:",
-        1,
-        all(Station::empty()),
-        b"1.2.34.5677",
-        b"00001010100",
-    )?;
-    row_cycles(
-        &rt,
-        "a row of 2:",
-        2,
-        all(Station::empty()),
-        b"12345555.67.....",
-        b"0011101001101000",
-    )?;
-    row_cycles(
-        &rt,
-        "a row of 8:",
-        8,
-        all(Station::empty()),
+fn show_cycles(rt: &impl Print, alloc: Global) -> io::Result<()> {
+    let table1 = cycles(alloc, b"123....4..", b"0011000110")?;
+    let figure6 = cycles(alloc, b"1.2.34.5677", b"00001010100")?;
+    let for_2 = cycles(alloc, b"12345555.67.....", b"0011101001101000")?;
+    let for_8 = cycles(
+        alloc,
         b"1234567890123456789........................",
         b"0000000001111111111100000000000010000000000",
     )?;
+    show(rt, "004, table 1", Station::empty(), &table1)?;
+    show(rt, "000, figure 6", Station::empty(), &figure6)?;
+    show(rt, "a row of 1, figure 6", empty_row(1), &figure6)?;
+    show(rt, "a row of 2", empty_row(2), &for_2)?;
+    show(rt, "a row of 8", empty_row(8), &for_8)
+}
+
+fn show_stations(rt: &impl Print) -> io::Result<()> {
+    let cases = [
+        (
+            "no token comes, with a value beside it",
+            station(1, 4, 0),
+            Cycle::new(false, 9, true),
+        ),
+        (
+            "two tokens of 0",
+            station(2, 0, 0),
+            Cycle::new(false, 9, true),
+        ),
+        (
+            "full, not stopped, a token offered",
+            station(2, 4, 5),
+            Cycle::new(true, 6, false),
+        ),
+        (
+            "the ends of the range",
+            station(1, i32::MIN, 0),
+            Cycle::new(true, i32::MAX, true),
+        ),
+        ("a count of 3", station(3, 4, 5), Cycle::new(true, 6, false)),
+        (
+            "a count of 255",
+            station(255, 4, 5),
+            Cycle::new(true, 6, false),
+        ),
+        (
+            "one token and an unused 5",
+            station(1, 4, 5),
+            Cycle::new(true, 6, false),
+        ),
+        (
+            "no token and an unused -1",
+            station(0, -1, 0),
+            Cycle::new(false, 0, false),
+        ),
+        (
+            "no token and an unused 5 behind",
+            station(0, 0, 5),
+            Cycle::new(false, 0, true),
+        ),
+    ];
+    for (label, station, cycle) in cases {
+        show(rt, label, station, &[cycle])?;
+    }
+    Ok(())
+}
+
+fn show_rows(rt: &impl Print) -> io::Result<()> {
+    let empty = all(Station::empty());
+    let misfits = all(station(3, 4, 5));
+    let with_one = all(station(1, 4, 0));
+    let cases = [
+        ("a row of 0", 0, empty),
+        ("a row of 9", 9, empty),
+        ("a row of 0 of misfits", 0, misfits),
+        ("a row of 9 of misfits", 9, misfits),
+        ("more than nine are asked for", 4294967304, with_one),
+        ("a row of 8 of misfits", 8, misfits),
+        ("a row of 8, the last a misfit", 8, misfit(7)),
+        ("a row of 8, the first a misfit", 8, misfit(0)),
+        ("a row of 8, a misfit behind it", 8, misfit(8)),
+        ("a row of 8 full ones", 8, all(station(2, 4, 3))),
+        ("a row of 8 with a token each", 8, with_one),
+    ];
+    for (label, length, records) in cases {
+        show(
+            rt,
+            label,
+            Row { records, length },
+            &[Cycle::new(true, 5, false)],
+        )?;
+    }
+    Ok(())
+}
+
+fn main(rt: HostRuntime) -> io::Result<()> {
+    show_cycles(&rt, rt.alloc())?;
     show_stations(&rt)?;
     show_rows(&rt)
 }

@@ -3,46 +3,22 @@
 // row, and what its last record holds.
 #![tactic(auto)]
 
-ghost use Rattle.std.specs.Prelude.{◌≤◌};
-
 use bench::Records;
 use relay::Station;
 use std::io;
 
-#[derive(Clone, Copy)]
-struct Ran {
-    records: Records,
-    left: u32,
-}
-
-fn passed(letter: u8) -> u32
-    ensures { result ≤ 1 }
-{
-    if letter == b'T' {
-        return 1;
-    }
-    0
-}
-
-fn run() -> Ran {
-    let mut records = Records {
-        stations: [Station::empty(); 9],
-    };
-    let mut left: u32 = 0;
-    for i in 0..1000000u32 {
-        let out = bench::row_trial(records, 8, (i & 3) != 0, 5, (i & 5) == 1);
-        let answer = out.answer;
-        records = out.records;
-        left += passed(answer.letter);
-    }
-    Ran { records, left }
+// Call i, and whether a token left the row.
+fn passes(records: &mut Records, i: u32) -> bool {
+    let out = bench::row_trial(*records, 8, i & 3 != 0, 5, i & 5 == 1);
+    *records = out.records;
+    out.answer.letter == b'T'
 }
 
 fn main(rt: HostRuntime) -> io::Result<()> {
-    let ran = run();
-    let records = ran.records;
-    let last = records.stations[7];
-    let left = ran.left;
-    let count = last.count;
+    let mut records = Records {
+        stations: [Station::empty(); 9],
+    };
+    let left = (0..1000000).filter(|&i| passes(&mut records, i)).count();
+    let count = records.stations[7].count;
     println!(rt; "{left} left, {count} in the last")
 }

@@ -41,7 +41,7 @@ pub fn sets_above(word: u64, n: u8) -> bool
 
 // The netlist of an image that a state fits: the judge's refusals, and then 21. The state comes by value:
 // behind a reference nothing is known of the lengths of its arrays.
-fn fitted<'a>(image: &'a [u8], state: State) -> Result<Netlist<'a>, Refusal>
+pub fn fitted<'a>(image: &'a [u8], state: State) -> Result<Netlist<'a>, Refusal>
     ensures number { number_of result ≡ state_number image.entry.now state }
     ensures same { IfOk result (λ netlist. netlist.image ≡ image.entry) }
     ensures fitting { IfOk result (λ netlist. Fitting netlist.image.now state) }

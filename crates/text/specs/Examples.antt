@@ -6,7 +6,7 @@ use Rattle.refusal.specs.declared.Refusal.TheVariants.{Room}
 use Rattle.relay.specs.Examples.{t, t-, r, i, s}
 use Rattle.text.specs.Ascii.{ascii}
 use Rattle.text.specs.Decimal.{places, decimal, signed_text}
-use Rattle.text.specs.Lines.{shows_value, state_text, line_text, count_text, word_text, closing_text, refused_text, state_at, row_of}
+use Rattle.text.specs.Lines.{shows_value, state_text, line_text, count_text, word_text, closing_text, refused_text, state_at}
 use Rattle.text.specs.Trace.{header, lines_text, trace_text}
 use Rattle.text.specs.Write.{written_answer, written_over}
 
@@ -41,9 +41,9 @@ refusal : (refused_text 3 ≡ ascii "refused 3\n") × (refused_text 12 ≡ ascii
 unfolding refused_text word_text count_text decimal places flat_map ascii
 refusal = (refl, refl)
 
--- a row of two arrays, the second of them shorter
-row : row_of (84 ∷ 73 ∷ 82 ∷ []) (negsuc 4 ∷ pos 0 ∷ []) ≡ t- 5 ∷ i ∷ r 0 ∷ []
-unfolding row_of state_at table
+-- states in two arrays, the second of them shorter
+row : table (state_at (84 ∷ 73 ∷ 82 ∷ []) (negsuc 4 ∷ pos 0 ∷ [])) 3 ≡ t- 5 ∷ i ∷ r 0 ∷ []
+unfolding state_at table
 row = refl
 
 -- ---- traces: of two cycles, and of none

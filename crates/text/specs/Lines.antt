@@ -34,9 +34,6 @@ closing_text firings = word_text (ascii "fired") firings
 unfoldable pub refused_text : ℕ → List ℕ
 refused_text number = word_text (ascii "refused") (number ∷ [])
 
--- the row of two parallel arrays: channel c's state; a letter beyond the last value has the value 0
+-- channel c's state, of letters and values in two arrays
 unfoldable pub state_at : List ℕ → List ℤ → ℕ → Reading
 state_at letters values c = record { letter = get_or letters c 0; value = get_or values c (pos 0) }
-
-unfoldable pub row_of : List ℕ → List ℤ → List Reading
-row_of letters values = table (state_at letters values) (length letters)

@@ -1,5 +1,5 @@
 -- What a writer answers, where the slice is too short and where it is not. Assumes nothing.
-use Rattle.std.specs.Prelude.{List, [], ◌∷◌, ◌++◌, true, false, ◌≡◌, refl, ℕ, ◌+◌, ◌-◌, ◌≤◌, ◌<◌, set, Ok, Err}
+use Rattle.std.specs.Prelude.{List, [], ◌∷◌, ◌++◌, true, false, ◌≡◌, refl, ℕ, ◌+◌, ◌-◌, ◌≤◌, ◌<◌, set, Result, Ok, Err}
 use Rattle.std.proofs.Math.Logic.{⊎_elim}
 use Rattle.std.proofs.Math.Path.{sym}
 use Rattle.std.proofs.Common.{ap, ◌∙◌, arith, take_at}
@@ -8,11 +8,13 @@ use borrow.Author.Tests.{lt-ltb, le-ltb}
 use Rattle.std.proofs.Math.Dec.{ltb}
 use Rattle.std.proofs.Math.ListN.{length, take, drop, length-append}
 use Rattle.laws.specs.Cases.{true_or_false}
+use Rattle.refusal.specs.NumberLaws.{number_positive}
+use Rattle.refusal.specs.declared.Refusal.{Refusal}
 use Rattle.refusal.specs.declared.Refusal.TheVariants.{Room}
 use Rattle.text.specs.Ascii.{ascii}
 use Rattle.text.specs.Put.{Put}
 use Rattle.text.specs.PutLaws.{put_one, put-after, put_long, put_front}
-use Rattle.text.specs.Write.{written_answer, written_over, WriteDone, Begins}
+use Rattle.text.specs.Write.{written_answer, written_over, WriteDone, WriteTold, write_told, Begins}
 
 module _ (text out : List ℕ) where
   pub write_none : length out < length text → WriteDone text out (Err Room) out
@@ -41,6 +43,11 @@ written_begins {text} {out} {left} {n} d =
     let t : take n left ≡ text = rw (m, l) (take_at text (drop (length text) out) (length text) refl) in
     record { counts = (rw (m, l, length-append) (omega arith), m ∙ sym (ap length t)); text_is = t })
     (true_or_false (ltb (length out) (length text)))
+
+-- an answer of number 0 and so many bytes is that one
+pub told_ok : (answer : Result ℕ Refusal) {n : ℕ} → 0 ≡ (write_told answer).number → n ≡ (write_told answer).length → Ok n ≡ answer
+told_ok (Ok m) z e = ap Ok e
+told_ok (Err refusal) z e = absurd (omega (arith, z, number_positive refusal))
 
 -- ---- a line of two parts and a line feed, as every line is
 module _ (first rest out : List ℕ) where

@@ -151,11 +151,10 @@ fn trace(rt: &impl Print, input: &[u8], size: u64)
 
 fn main(rt: HostRuntime) {
     let mut bytes = [0u8; LONGEST];
-    let input = input::read_to_end(&mut rt.stdin(), &mut bytes);
-    if !input.complete {
-        let _ = eprintln!(rt; "trace: standard input cannot be read");
-        return;
+    match input::read_to_end(&mut rt.stdin(), &mut bytes) {
+        Ok(input) => trace(&rt, &bytes[..input.kept], input.length),
+        Err(unread) => {
+            let _ = eprintln!(rt; "trace: {unread}");
+        }
     }
-    let kept = input.kept;
-    trace(&rt, &bytes[..kept], input.length);
 }

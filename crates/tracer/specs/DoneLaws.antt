@@ -1,40 +1,40 @@
 -- What each way out of a call for a line has done. Assumes nothing.
-use Rattle.std.specs.Prelude.{true, false, List, ◌≡◌, ℕ, ◌≤◌, eqb, ℤ, length, drop}
-use Rattle.std.proofs.Common.{⊎_elim, sym, ◌∙◌, take_at}
+use Rattle.std.specs.Prelude.{true, false, List, ◌≡◌, ℕ, ◌≤◌, ◌<◌, eqb, ℤ, pos, length, drop, Result, Ok, Err}
+use Rattle.std.proofs.Common.{⊎_elim, sym, ◌∙◌, arith}
 use Rattle.std.proofs.Math.Path.{ap}
 use borrow.Author.Tests.{eq-eqb, ne_eqb, eqb-false}
-use Rattle.std.proofs.Math.ListN.{take}
+use Rattle.std.proofs.Math.ListN.{take, get_or, get_or-append}
 use Rattle.laws.specs.Cases.{true_or_false}
 use Rattle.laws.specs.Table.{table}
-use Rattle.laws.specs.TableLaws.{length-table, take-table}
+use Rattle.laws.specs.TableLaws.{length-table, table_at, table_same, take-table}
 use Rattle.netlist.specs.Image.{nodes, channels}
 use Rattle.netlist.specs.Judge.{judge}
+use Rattle.refusal.specs.Number.{number}
+use Rattle.refusal.specs.NumberLaws.{number_positive}
+use Rattle.refusal.specs.declared.Refusal.{Refusal}
+use Rattle.relay.specs.declared.Reading.{Reading}
 use Rattle.netlist.specs.AcceptedLaws.{accepted}
 use Rattle.state.specs.declared.State.{State}
 use Rattle.state.specs.State.{firings_at}
-use Rattle.state.specs.Fits.{fits}
-use Rattle.cycle.specs.Cycle.{state_after, letters_of, values_of}
-use Rattle.engine.specs.declared.Stepped.{Stepped}
+use Rattle.cycle.specs.Cycle.{seen_at, state_after, letters_of, values_of}
+use Rattle.state.specs.Told.{Told}
 use Rattle.engine.specs.Answer.{step_number, step_of, step_answer, letters_written, values_written}
-use Rattle.engine.specs.AnswerLaws.{number_ok, state_ok, state-judge, state_21, state_0}
+use Rattle.engine.specs.AnswerLaws.{number_ok, state_ok}
 use Rattle.engine.specs.Done.{StepDone}
 use Rattle.engine.specs.Taken.{state_number}
-use Rattle.text.specs.declared.Written.{Written}
-use Rattle.text.specs.Lines.{line_text, closing_text, row_of}
-use Rattle.text.specs.Write.{written_answer, WriteDone}
-use Rattle.text.specs.WriteLaws.{written_none}
+use Rattle.text.specs.Lines.{line_text, closing_text, state_at}
+use Rattle.text.specs.Write.{written_answer, WriteDone, WriteTold, write_told}
+use Rattle.text.specs.WriteLaws.{told_ok}
 use Rattle.tracer.specs.Trace.{cycle_text, firings_of}
-use Rattle.tracer.specs.TraceLaws.{row_shown}
-use Rattle.tracer.specs.declared.Lined.{Lined}
-use Rattle.tracer.specs.Done.{line_answer, line_over, LineDone, closing_answer, closing_over, ClosingDone}
+use Rattle.tracer.specs.Done.{LineTold, line_answer, line_over, LineDone, closing_answer, closing_over, ClosingDone}
 
 -- ---- a step that is lent 96 places
 module _
-    {img : List ℕ} {s : State} {word : ℕ} {letters : List ℕ} {values : List ℤ} {stepped : Stepped} {letters_left : List ℕ} {values_left : List ℤ}
+    {img : List ℕ} {s : State} {word : ℕ} {letters : List ℕ} {values : List ℤ} {stepped : Told} {letters_left : List ℕ} {values_left : List ℤ}
     (d : StepDone img s word letters values stepped letters_left values_left) (l : length letters ≡ 96) (v : length values ≡ 96) where
   pub step-number : stepped.number ≡ step_number img s word 96 96
   unfolding step_answer step_of
-  step-number = ap (λ (a : Stepped). a.number) d.answered ∙ rw (l, v)
+  step-number = ap (λ (a : Told). a.number) d.answered ∙ rw (l, v)
 
   -- the image was accepted, and the first C places have the cycle's letters and values
   module _ (e : stepped.number ≡ 0) where
@@ -49,17 +49,35 @@ module _
 
     pub step-state : stepped.state ≡ state_after img word s
     unfolding step_answer
-    step-state = ap (λ (a : Stepped). a.state) d.answered ∙ rw zero_of
+    step-state = ap (λ (a : Told). a.state) d.answered ∙ rw zero_of
 
-    pub step-text : line_text s.cycles (row_of (take (channels img) letters_left) (take (channels img) values_left)) ≡ cycle_text img s
-    unfolding letters_written values_written cycle_text letters_of values_of
-    step-text =
+    -- each channel's letter and value are what it shows
+    step_row : (c : ℕ) → c < channels img → state_at letters_left values_left c ≡ seen_at img s c
+    unfolding letters_written values_written state_at letters_of values_of
+    step_row c h =
         let n = channels img in
-        let a : take n letters_left ≡ letters_of img s =
-        ap (take n) d.lettered ∙ rw zero_of (take_at (letters_of img s) (drop n letters) n (length-table _ n)) in
-        let b : take n values_left ≡ values_of img s =
-        ap (take n) d.valued ∙ rw zero_of (take_at (values_of img s) (drop n values) n (length-table _ n)) in
-        rw (a, b) (ap (line_text s.cycles) (sym (row_shown img s)))
+        let a : get_or letters_left c 0 ≡ (seen_at img s c).letter =
+        ap (λ x. get_or x c 0) d.lettered
+        ∙ rw zero_of (get_or-append (letters_of img s) (drop n letters) 0 c (rw length-table h) ∙ table_at (λ k. (seen_at img s k).letter) n c 0 h) in
+        let b : get_or values_left c (pos 0) ≡ (seen_at img s c).value =
+        ap (λ x. get_or x c (pos 0)) d.valued
+        ∙ rw zero_of
+        (get_or-append (values_of img s) (drop n values) (pos 0) c (rw length-table h) ∙ table_at (λ k. (seen_at img s k).value) n c (pos 0) h) in
+        rw (a, b)
+
+    pub step_text :
+        {row : List Reading} → row ≡ table (state_at letters_left values_left) 96 → line_text s.cycles (take (channels img) row) ≡ cycle_text img s
+    unfolding cycle_text
+    step_text e =
+        rw (e, take-table (state_at letters_left values_left) (channels img) 96 step-accepted.1)
+        (ap (line_text s.cycles) (table_same (state_at letters_left values_left) (seen_at img s) (channels img) step_row))
+
+  -- the state that a refused step hands back
+  pub step_refused : (stepped.number ≡ 0 → ⊥) → stepped.state ≡ s
+  unfolding step_answer step_of
+  step_refused n =
+      ap (λ (a : Told). a.state) d.answered
+      ∙ rw (l, v, ne_eqb (step_number img s word 96 96) 0 (λ q. n (step-number ∙ q)))
 
 -- ---- a cycle's line
 module _ (img : List ℕ) (s : State) (word : ℕ) (out : List ℕ) where
@@ -70,72 +88,71 @@ module _ (img : List ℕ) (s : State) (word : ℕ) (out : List ℕ) where
   unfolding line_answer line_over
   line_refused {number} e n = let q = ne_eqb number 0 n in record { answered = rw (← e, q); over = rw (← e, q) }
 
-  module _ {text left : List ℕ} {written : Written} (e : 0 ≡ step_number img s word 96 96) (t : text ≡ cycle_text img s)
-      (d : WriteDone text out written left)
-    where
-      -- the line is too long
-      pub line_long : (written.number ≡ 0 → ⊥) → LineDone img s word out (record { number = written.number; length = 0; state = s }) left
-      unfolding line_answer line_over
-      line_long n =
-          record {
-            answered = rw (← e, ← t, ← d.answered, ne_eqb written.number 0 n, written_none d n);
-            over = d.over ∙ rw (← e, t);
-          }
+  module _ {text left : List ℕ} (e : 0 ≡ step_number img s word 96 96) (t : text ≡ cycle_text img s) where
+    -- the line is too long
+    pub line_long :
+        {refusal : Refusal} → WriteDone text out (Err refusal) left
+        → LineDone img s word out (record { number = number refusal; length = 0; state = s }) left
+    unfolding line_answer line_over
+    line_long {refusal} d =
+        let n = ne_eqb (number refusal) 0 (λ z. absurd (omega (arith, z, number_positive refusal))) in
+        record { answered = rw (← e, ← t, ← d.answered, n); over = d.over ∙ rw (← e, t) }
 
-      -- it was written
-      pub line_written :
-          {after : State} → written.number ≡ 0 → after ≡ state_after img word s
-          → LineDone img s word out (record { number = 0; length = written.length; state = after }) left
-      unfolding line_answer line_over
-      line_written n a = record { answered = rw (← e, ← t, ← d.answered, n, a); over = d.over ∙ rw (← e, t) }
+    -- it was written
+    pub line_written :
+        {n : ℕ} {after : State} → WriteDone text out (Ok n) left → after ≡ state_after img word s
+        → LineDone img s word out (record { number = 0; length = n; state = after }) left
+    unfolding line_answer line_over
+    line_written d a = record { answered = rw (← e, ← t, ← d.answered, a); over = d.over ∙ rw (← e, t) }
 
 -- ---- the closing line
 module _ (img : List ℕ) (s : State) (out : List ℕ) where
-  pub closing_judged : (judge img ≡ 0 → ⊥) → ClosingDone img s out (record { number = judge img; length = 0 }) out
+  pub closing_refused :
+      {number : ℕ} → number ≡ state_number img s → (number ≡ 0 → ⊥) → ClosingDone img s out (record { number = number; length = 0 }) out
   unfolding closing_answer closing_over
-  closing_judged n = let e = state-judge img s n in let q = ne_eqb (judge img) 0 n in record { answered = rw (← e, q); over = rw (← e, q) }
-
-  pub closing_21 : judge img ≡ 0 → fits img s ≡ false → ClosingDone img s out (record { number = 21; length = 0 }) out
-  unfolding closing_answer closing_over
-  closing_21 j f = let e = state_21 img s j f in record { answered = rw (← e); over = rw (← e) }
+  closing_refused {number} e n = let q = ne_eqb number 0 n in record { answered = rw (← e, q); over = rw (← e, q) }
 
   pub closing_written :
-      {left : List ℕ} {answer : Written} → judge img ≡ 0 → fits img s ≡ true
-      → WriteDone (closing_text (take (nodes img) (table (firings_at s) 64))) out answer left → ClosingDone img s out answer left
+      {left : List ℕ} {answer : Result ℕ Refusal} → 0 ≡ state_number img s
+      → WriteDone (closing_text (take (nodes img) (table (firings_at s) 64))) out answer left → ClosingDone img s out (write_told answer) left
   unfolding closing_answer closing_over firings_of
-  closing_written j f d =
-      let e = state_0 img s j f in
+  closing_written e d =
+      let j = (state_ok img s (sym e)).0 in
       let t = take-table (firings_at s) (nodes img) 64 (accepted img j).few_nodes in
-      record { answered = d.answered ∙ rw (← e, t); over = d.over ∙ rw (← e, t) }
+      record { answered = ap write_told d.answered ∙ rw (← e, t); over = d.over ∙ rw (← e, t) }
 
--- ---- for callers: number 0 says that the line was written, and that the cycle was made
+-- ---- for callers: an answer says that the line was written, and that the cycle was made
 pub line_made :
-    {img : List ℕ} {s : State} {word : ℕ} {out left : List ℕ} {answer : Lined} → LineDone img s word out answer left → answer.number ≡ 0
-    → WriteDone (cycle_text img s) out (record { number = 0; length = answer.length }) left × (answer.state ≡ state_after img word s)
+    {img : List ℕ} {s : State} {word : ℕ} {out left : List ℕ} {n : ℕ} {after : State}
+    → LineDone img s word out (record { number = 0; length = n; state = after }) left
+    → WriteDone (cycle_text img s) out (Ok n) left × (after ≡ state_after img word s)
 unfolding line_answer line_over
-line_made {img} {s} {word} {out} {answer = answer} d z =
+line_made {img} {s} {word} {out} {n = n} d =
     let number = step_number img s word 96 96 in
-    let written = written_answer (cycle_text img s) out in
-    let n = sym (ap (λ (a : Lined). a.number) d.answered) ∙ z in
-    let l = ap (λ (a : Lined). a.length) d.answered in
+    let answer = written_answer (cycle_text img s) out in
+    let z = ap (λ (a : LineTold). a.number) d.answered in
+    let l = ap (λ (a : LineTold). a.length) d.answered in
     ⊎_elim
     (λ (q : eqb number 0 ≡ true).
-    let w : written.number ≡ 0 = rw q at n in
-    let t : answer.length ≡ written.length = rw q at l in (
-      record { answered = rw t (ap (λ k. record { number = k; length = written.length }) (sym w)); over = d.over ∙ rw q },
-      ap (λ (a : Lined). a.state) d.answered ∙ rw (q, eq-eqb _ 0 w),
+    let w : 0 ≡ (write_told answer).number = rw q at z in
+    let k : n ≡ (write_told answer).length = rw q at l in (
+      record { answered = told_ok answer w k; over = d.over ∙ rw q },
+      ap (λ (a : LineTold). a.state) d.answered ∙ rw (q, eq-eqb _ 0 (sym w)),
     ))
-    (λ (q : eqb number 0 ≡ false). let w : number ≡ 0 = rw q at n in absurd (eqb-false number 0 q w))
+    (λ (q : eqb number 0 ≡ false). let w : number ≡ 0 = sym (rw q at z) in absurd (eqb-false number 0 q w))
     (true_or_false (eqb number 0))
 
 pub closing_made :
-    {img : List ℕ} {s : State} {out left : List ℕ} {answer : Written} → ClosingDone img s out answer left → answer.number ≡ 0
-    → WriteDone (closing_text (firings_of img s)) out answer left
+    {img : List ℕ} {s : State} {out left : List ℕ} {n : ℕ} → ClosingDone img s out (record { number = 0; length = n }) left
+    → WriteDone (closing_text (firings_of img s)) out (Ok n) left
 unfolding closing_answer closing_over
-closing_made {img} {s} {out} {answer = answer} d z =
-    let n = sym (ap (λ (a : Written). a.number) d.answered) ∙ z in
+closing_made {img} {s} {out} {n = n} d =
+    let answer = written_answer (closing_text (firings_of img s)) out in
+    let z = ap (λ (a : WriteTold). a.number) d.answered in
+    let l = ap (λ (a : WriteTold). a.length) d.answered in
     ⊎_elim
-    (λ (q : eqb (state_number img s) 0 ≡ true). record { answered = d.answered ∙ rw q; over = d.over ∙ rw q })
-    (λ (q : eqb (state_number img s) 0 ≡ false).
-    let w : state_number img s ≡ 0 = rw q at n in absurd (eqb-false (state_number img s) 0 q w))
+    (λ (q : eqb (state_number img s) 0 ≡ true).
+    let w : 0 ≡ (write_told answer).number = rw q at z in
+    let k : n ≡ (write_told answer).length = rw q at l in record { answered = told_ok answer w k; over = d.over ∙ rw q })
+    (λ (q : eqb (state_number img s) 0 ≡ false). let w : state_number img s ≡ 0 = sym (rw q at z) in absurd (eqb-false (state_number img s) 0 q w))
     (true_or_false (eqb (state_number img s) 0))

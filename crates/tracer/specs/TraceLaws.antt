@@ -1,28 +1,17 @@
 -- The trace is its header, the line of each cycle and the closing line. Assumes nothing.
 use mathlib.Core.List.{List, [], ◌∷◌, ◌++◌, flat_map}
-use Rattle.std.specs.Prelude.{◌≡◌, ℕ, zero, suc, pos, length, take}
+use Rattle.std.specs.Prelude.{◌≡◌, ℕ, zero, suc, length, take}
 use Rattle.std.proofs.Math.Path.{refl, ap}
 use Rattle.std.proofs.Common.{sym, ◌∙◌}
 use Rattle.laws.specs.Table.{table}
-use Rattle.laws.specs.TableLaws.{length-table, table_at, table_same}
-use Rattle.netlist.specs.Image.{channels}
 use Rattle.state.specs.declared.State.{State}
 use Rattle.state.specs.Fresh.{fresh_state}
 use Rattle.state.specs.FreshLaws.{fresh-cycles}
-use Rattle.cycle.specs.Cycle.{seen_at, state_after, after, letters_of, values_of}
+use Rattle.cycle.specs.Cycle.{state_after, after}
 use Rattle.cycle.specs.CycleLaws.{cycles-next}
-use Rattle.text.specs.Lines.{closing_text, state_at, row_of}
+use Rattle.text.specs.Lines.{closing_text}
 use Rattle.text.specs.Trace.{header, lines_text, trace_text}
-use Rattle.tracer.specs.Trace.{row_seen, rows_from, cycle_text, firings_of, trace_of}
-
--- the row of a cycle, from the letters and values that a step writes
-pub row_shown : (img : List ℕ) (s : State) → row_seen img s ≡ row_of (letters_of img s) (values_of img s)
-unfolding row_of state_at letters_of values_of
-row_shown img s =
-    let n = channels img in
-    rw (length-table (λ c. (seen_at img s c).letter) n)
-    (table_same (seen_at img s) _ n
-    (λ c h. rw (table_at (λ c. (seen_at img s c).letter) n c 0 h, table_at (λ c. (seen_at img s c).value) n c (pos 0) h)))
+use Rattle.tracer.specs.Trace.{rows_from, cycle_text, firings_of, trace_of}
 
 -- the first entry of a table
 table-first : (f : ℕ → List ℕ) (n : ℕ) → table f (suc n) ≡ f 0 ∷ table (λ k. f (suc k)) n

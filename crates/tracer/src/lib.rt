@@ -3,23 +3,26 @@
 // for each cycle, and a closing line.
 #![tactic(auto)]
 
-ghost use Rattle.std.specs.Prelude.{◌≡◌, ◌-◌, ◌≤◌, length, get_or};
+ghost use Rattle.std.specs.Prelude.{not, ◌&&◌, ◌≡◌, ◌≤◌, eqb, ltb, length, get_or};
 ghost use Rattle.io.specs.Counts.{IsPrefixLen};
 ghost use Rattle.laws.specs.Table.{table};
 ghost use Rattle.state.specs.State.{firings_at};
 ghost use Rattle.engine.specs.Answer.{step_number};
 ghost use Rattle.engine.specs.Taken.{state_number};
 ghost use Rattle.tracer.specs.Input.{image_due, image_of, word_count, words_of, any_above, input_number};
-ghost use Rattle.tracer.specs.Done.{LineDone, ClosingDone};
+ghost use Rattle.refusal.specs.Number.{number_of};
+ghost use Rattle.text.specs.Lines.{state_at};
+ghost use Rattle.text.specs.Write.{write_told};
+ghost use Rattle.tracer.specs.Done.{line_told, LineDone, ClosingDone};
 
-use state::State;
-use text::Written;
+use refusal::Refusal;
+use relay::Reading;
+use state::{Refused, State};
+use std::array;
 
-// What a cycle's line answers: 0, how long it is and the state after the cycle; or the number, 0 and
-// the state that was handed in.
+// A cycle's line: how long it is, and the state after the cycle.
 #[derive(Clone, Copy)]
 pub struct Lined {
-    pub number: u8,
     pub length: usize,
     pub state: State,
 }
@@ -42,16 +45,14 @@ pub fn image_length(input: &[u8]) -> usize
     ensures value { result ≡ length (image_of input.now) }
     ensures prefix_len { IsPrefixLen result input.now }
 {
-    let due = image_due(input);
-    if input.len() < due { input.len() } else { due }
+    image_due(input).min(input.len())
 }
 
 // How many whole words follow the image.
 pub fn words(input: &[u8]) -> usize
     ensures { result ≡ word_count input.now }
 {
-    let rest = input.len() - image_length(input);
-    rest / 8
+    (input.len() - image_length(input)) / 8
 }
 
 // Word k of the input, 0 past the last.
@@ -81,77 +82,69 @@ fn any_above(input: &[u8]) -> bool
     any
 }
 
-// How far a size goes beyond what is due, 0 where it does not.
-fn beyond(size: u64, due: usize) -> u64
-    ensures { result ≡ size - due }
+// Whether the judge refuses before it would look at what follows an image.
+fn found_early(judged: Result<(), Refusal>) -> bool
+    ensures { result ≡ (not (eqb (number_of judged) 0) && ltb (number_of judged) 4) }
 {
-    let due = due as u64;
-    if size < due { 0 } else { size - due }
+    match judged {
+        Err(refusal) => refusal.number() < 4,
+        Ok(()) => false,
+    }
 }
 
-// The number of an input of `size` bytes that begins with `head`, or 0. With the first 33,570 bytes, or
-// all where there are fewer, it is the whole input's: no image is longer than 802 bytes, and 4,096 words
-// take 32,768. So a reader need only count what is beyond.
-pub fn input_number(head: &[u8], size: u64) -> u8
-    ensures { result ≡ input_number head.now size }
+// Whether an input of `size` bytes that begins with `head` is refused. With the first 33,570 bytes, or all
+// where there are fewer, the answer is the whole input's: no image is longer than 802 bytes, and 4,096
+// words take 32,768. So a reader need only count what is beyond.
+pub fn judge(head: &[u8], size: u64) -> Result<(), Refusal>
+    ensures { number_of result ≡ input_number head.now size }
 {
-    let image = image_length(head);
-    let judged = netlist::judge(&head[..image]);
-    let tail = beyond(size, image_due(head));
-    let early = (judged != 0) & (judged < 4);
-    let ragged = tail % 8 != 0;
-    let refused = judged != 0;
-    let long = WORDS < tail / 8;
+    let judged = netlist::judge(&head[..image_length(head)]);
+    let tail = size.saturating_sub(image_due(head) as u64);
     let above = any_above(head);
-    if early {
+    if found_early(judged) {
         return judged;
     }
-    if ragged {
-        return 3;
+    if tail % 8 != 0 {
+        return Err(Refusal::Length);
     }
-    if refused {
-        return judged;
-    }
-    if long {
-        return 14;
+    judged?;
+    if WORDS < tail / 8 {
+        return Err(Refusal::Limit);
     }
     if above {
-        return 12;
+        return Err(Refusal::Stall);
     }
-    0
+    Ok(())
 }
 
-// One cycle with a stall word, and its line at the start of `out`. The numbers are a step's, and 13
-// where `out` is shorter than the line, which has 1,259 bytes at most; then nothing is written and
-// the state stays.
-pub fn cycle_line(image: &[u8], state: State, word: u64, out: &mut [u8]) -> Lined
-    ensures line_done { LineDone image.now state word out.old result out.new }
-    ensures number_value { 1259 ≤ length out.old → result.number ≡ step_number image.now state word 96 96 }
+// Each channel's letter beside its value.
+fn readings(letters: &[u8; 96], values: &[i32; 96]) -> [Reading; 96]
+    ensures { result ≡ table (state_at letters.now values.now) 96 }
+{
+    array::from_fn(|c| Reading {
+        letter: letters[c],
+        value: values[c],
+    })
+}
+
+// One cycle with a stall word, and its line at the start of `out`. It is refused like a step, and then
+// where `out` is shorter than the line, which has 1,259 bytes at most; then nothing is written, and the
+// state that was handed in is handed back.
+pub fn cycle_line(image: &[u8], state: State, word: u64, out: &mut [u8]) -> Result<Lined, Refused>
+    ensures line_done { LineDone image.now state word out.old (line_told result) out.new }
+    ensures number_value { 1259 ≤ length out.old → (line_told result).number ≡ step_number image.now state word 96 96 }
 {
     let mut letters = [0u8; 96];
     let mut values = [0i32; 96];
-    let stepped = engine::step(image, state, word, &mut letters, &mut values);
-    if stepped.number != 0 {
-        return Lined {
-            number: stepped.number,
-            length: 0,
-            state,
-        };
-    }
+    let after = engine::step(image, state, word, &mut letters, &mut values)?;
     let channels = netlist::channels(image) as usize;
-    let written = text::cycle_line(state.cycles, &letters[..channels], &values[..channels], out);
-    if written.number != 0 {
-        return Lined {
-            number: written.number,
-            length: 0,
-            state,
-        };
-    }
-    let after = stepped.state;
-    Lined {
-        number: 0,
-        length: written.length,
-        state: after,
+    let row = readings(&letters, &values);
+    match text::cycle_line(state.cycles, &row[..channels], out) {
+        Ok(length) => Ok(Lined {
+            length,
+            state: after,
+        }),
+        Err(refusal) => Err(Refused { refusal, state }),
     }
 }
 
@@ -159,34 +152,18 @@ pub fn cycle_line(image: &[u8], state: State, word: u64, out: &mut [u8]) -> Line
 fn firings_of(state: State) -> [u32; 64]
     ensures { result ≡ table (firings_at state) 64 }
 {
-    let mut firings = [0u32; 64];
-    for n in 0..64 {
-        let node = state.nodes[n];
-        firings[n] = node.firings;
-    }
-    firings
+    array::from_fn(|n| state.nodes[n].firings)
 }
 
-// The closing line after a state, at the start of `out`. The numbers are the judge's, 21, and 13 where
-// `out` is shorter than the line, which has 710 bytes at most; then nothing is written.
-pub fn closing_line(image: &[u8], state: State, out: &mut [u8]) -> Written
-    ensures closing_done { ClosingDone image.now state out.old result out.new }
-    ensures number_value { 710 ≤ length out.old → result.number ≡ state_number image.now state }
+// The closing line after a state, at the start of `out`. It is refused by the judge, where the state
+// does not fit, and where `out` is shorter than the line, which has 710 bytes at most; then nothing is
+// written.
+pub fn closing_line(image: &[u8], state: State, out: &mut [u8]) -> Result<usize, Refusal>
+    ensures closing_done { ClosingDone image.now state out.old (write_told result) out.new }
+    ensures number_value { 710 ≤ length out.old → number_of result ≡ state_number image.now state }
 {
-    let judged = netlist::judge(image);
-    if judged != 0 {
-        return Written {
-            number: judged,
-            length: 0,
-        };
-    }
-    if !state::fits(image, state) {
-        return Written {
-            number: 21,
-            length: 0,
-        };
-    }
-    let nodes = netlist::nodes(image) as usize;
+    let netlist = engine::fitted(image, state)?;
+    let nodes = netlist.nodes() as usize;
     let firings = firings_of(state);
     text::closing_line(&firings[..nodes], out)
 }

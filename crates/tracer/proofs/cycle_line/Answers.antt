@@ -1,83 +1,78 @@
 -- `tracer::cycle_line` meets its contract. Assumes nothing.
-use mathlib.Core.Path.{◌≡◌, refl, sym, ◌∙◌}
-use Prim.Native.Nat.{ℕ, ◌+◌, ◌*◌, ◌≤◌}
+use mathlib.Core.Path.{◌≡◌, refl, sym, ap, ◌∙◌}
+use Prim.Native.Nat.{◌≤◌}
 use native.Mathlib.Omega.{arith}
 use lib.ListN.{length, take}
 use lib.Seq.{length-take-le}
-use Rattle.text.specs.Lines.{line_text, row_of}
+use Rattle.std.proofs.Common.{Err, rules}
+use Rattle.laws.specs.TableLaws.{length-table}
+use Rattle.refusal.specs.Number.{number}
+use Rattle.refusal.specs.NumberLaws.{number_positive}
+use Rattle.text.specs.Lines.{line_text}
 use Rattle.tracer.specs.Trace.{cycle_text}
-use Rattle.tracer.specs.DoneLaws.{step-number, step-accepted, step-state, step-text, line_refused, line_long, line_written}
-use Rattle.tracer.proofs.cycle_line.Goals.{After-channels-channels}
+use Rattle.tracer.specs.DoneLaws.{step-number, step-accepted, step-state, step_text, step_refused, line_refused, line_long, line_written}
+use Rattle.tracer.proofs.cycle_line.Goals.{After-readings-row}
 use Rattle.tracer.proofs.cycle_line.Goals as goal
 
--- there are places for all channels
-enough : (c : After-channels-channels) → c.channels-channels.result ≤ 96
+pub returns-in_err-after-clause-line_done : goal.returns-in_err-after-clause-line_done
+returns-in_err-after-clause-line_done c =
+    let a = c.args in
+    let r = c.in_err-after.field-0.0 in
+    let d = c.in_err-after.ensures in
+    let e : c.from_residual.result ≡ Err r = search rules in
+    let p = number_positive r.refusal in
+    let n : number r.refusal ≡ 0 → ⊥ = λ z. absurd (omega (arith, z, p)) in
+    rw (e, step_refused d refl refl n) (line_refused a.image.now a.state a.word a.out.now (step-number d refl refl) n)
+
+pub returns-in_err-after-clause-number_value : goal.returns-in_err-after-clause-number_value
+returns-in_err-after-clause-number_value c =
+    let r = c.in_err-after.field-0.0 in
+    let e : c.from_residual.result ≡ Err r = search rules in
+    λ h. rw e (step-number c.in_err-after.ensures refl refl)
+
+-- a reading for each channel
+long : (c : After-readings-row) → length c.readings-row.result ≡ 96
+long c = ap length c.readings-row.ensures ∙ length-table _ 96
+
+enough : (c : After-readings-row) → c.channels-channels.result ≤ length c.readings-row.result
 enough c =
-    let h = (step-accepted c.step-stepped.ensures refl refl c.if-stepped-ne0.false).1 in
-    omega (arith, h, c.channels-channels.ensures)
+    let h = (step-accepted c.in_ok-after.ensures refl refl refl).1 in
+    omega (arith, h, c.channels-channels.ensures, long c)
 
-lettered : (c : After-channels-channels) → c.channels-channels.result ≤ length c.step-stepped.new.letters
-lettered c = omega (arith, enough c, c.step-stepped.auto.letters)
-
-valued : (c : After-channels-channels) → c.channels-channels.result ≤ length c.step-stepped.new.values
-valued c = omega (arith, enough c, c.step-stepped.auto.values)
-
--- the longest line has room
-few :
-    (c : After-channels-channels) {room : ℕ} → 1259 ≤ room → 11 + 13 * length (take c.channels-channels.result c.step-stepped.new.letters) ≤ room
-few c h = omega (arith, h, enough c, length-take-le c.channels-channels.result c.step-stepped.new.letters (lettered c))
+few : (c : After-readings-row) → length (take c.channels-channels.result c.readings-row.result) ≤ 96
+few c = omega (arith, length-take-le c.channels-channels.result c.readings-row.result (enough c), enough c, long c)
 
 -- what is written is the cycle's line
 shown :
-    (c : After-channels-channels)
-    → let n = c.channels-channels.result in
-    line_text c.args.state.cycles (row_of (take n c.step-stepped.new.letters) (take n c.step-stepped.new.values)) ≡ cycle_text c.args.image.now c.args.state
-shown c = rw c.channels-channels.ensures (step-text c.step-stepped.ensures refl refl c.if-stepped-ne0.false)
+    (c : After-readings-row) → line_text c.args.state.cycles (take c.channels-channels.result c.readings-row.result) ≡ cycle_text c.args.image.now c.args.state
+shown c = rw c.channels-channels.ensures (step_text c.in_ok-after.ensures refl refl refl c.readings-row.ensures)
 
-pub returns-then-stepped-ne0-clause-line_done : goal.returns-then-stepped-ne0-clause-line_done
-returns-then-stepped-ne0-clause-line_done c =
-    let a = c.args in
-    line_refused a.image.now a.state a.word a.out.now (step-number c.step-stepped.ensures refl refl) c.if-stepped-ne0.true
-
-pub returns-then-stepped-ne0-clause-number_value : goal.returns-then-stepped-ne0-clause-number_value
-returns-then-stepped-ne0-clause-number_value c = λ h. step-number c.step-stepped.ensures refl refl
-
-pub slice_bounds-letters-end : goal.slice_bounds-letters-end
-slice_bounds-letters-end c = lettered (goal.at.slice_bounds-letters-end c).After-channels-channels
+pub slice_bounds-row-end : goal.slice_bounds-row-end
+slice_bounds-row-end c = enough (goal.at.slice_bounds-row-end c).After-readings-row
 
 pub slice_bounds-cycle_line-end : goal.slice_bounds-cycle_line-end
 slice_bounds-cycle_line-end c =
-    sym (length-take-le c.channels-channels.result c.step-stepped.new.letters (lettered (goal.at.slice_bounds-cycle_line-end c).After-channels-channels))
+    sym (length-take-le c.channels-channels.result c.readings-row.result (enough (goal.at.slice_bounds-cycle_line-end c).After-readings-row))
 
-pub slice_bounds-values-end : goal.slice_bounds-values-end
-slice_bounds-values-end c = valued (goal.at.slice_bounds-values-end c).After-channels-channels
-
-pub slice_bounds-cycle_line-end-2 : goal.slice_bounds-cycle_line-end-2
-slice_bounds-cycle_line-end-2 c =
-    sym (length-take-le c.channels-channels.result c.step-stepped.new.values (valued (goal.at.slice_bounds-cycle_line-end-2 c).After-channels-channels))
-
-pub returns-then-written-ne0-clause-line_done : goal.returns-then-written-ne0-clause-line_done
-returns-then-written-ne0-clause-line_done c =
+pub returns-in-Ok-clause-line_done : goal.returns-in-Ok-clause-line_done
+returns-in-Ok-clause-line_done c =
     let a = c.args in
-    let k = (goal.at.returns-then-written-ne0-clause-line_done c).After-channels-channels in
-    let n = sym c.if-stepped-ne0.false ∙ step-number c.step-stepped.ensures refl refl in
-    line_long a.image.now a.state a.word a.out.now n (shown k) c.cycle_line-written.ensures.write_done c.if-written-ne0.true
+    let k = (goal.at.returns-in-Ok-clause-line_done c).After-readings-row in
+    let d = c.in_ok-after.ensures in
+    line_written a.image.now a.state a.word a.out.now (step-number d refl refl) (shown k) c.in-Ok.ensures.write_done (step-state d refl refl refl)
 
-pub returns-then-written-ne0-clause-number_value : goal.returns-then-written-ne0-clause-number_value
-returns-then-written-ne0-clause-number_value c =
+pub returns-in-Ok-clause-number_value : goal.returns-in-Ok-clause-number_value
+returns-in-Ok-clause-number_value c = λ h. step-number c.in_ok-after.ensures refl refl
+
+pub returns-in-Err-clause-line_done : goal.returns-in-Err-clause-line_done
+returns-in-Err-clause-line_done c =
+    let a = c.args in
+    let k = (goal.at.returns-in-Err-clause-line_done c).After-readings-row in
+    line_long a.image.now a.state a.word a.out.now (step-number c.in_ok-after.ensures refl refl) (shown k) c.in-Err.ensures.write_done
+
+pub returns-in-Err-clause-number_value : goal.returns-in-Err-clause-number_value
+returns-in-Err-clause-number_value c =
+    let p = number_positive c.in-Err.refusal in
     λ h.
-    absurd
-    (c.if-written-ne0.true
-    (c.cycle_line-written.ensures.number_value (few (goal.at.returns-then-written-ne0-clause-number_value c).After-channels-channels h)))
-
-pub returns-clause-line_done : goal.returns-clause-line_done
-returns-clause-line_done c =
-    let a = c.args in
-    let k = (goal.at.returns-clause-line_done c).After-channels-channels in
-    let d = c.step-stepped.ensures in
-    let n = sym c.if-stepped-ne0.false ∙ step-number d refl refl in
-    line_written a.image.now a.state a.word a.out.now n (shown k) c.cycle_line-written.ensures.write_done c.if-written-ne0.false
-    (step-state d refl refl c.if-stepped-ne0.false)
-
-pub returns-clause-number_value : goal.returns-clause-number_value
-returns-clause-number_value c = λ h. sym c.if-stepped-ne0.false ∙ step-number c.step-stepped.ensures refl refl
+    let z = c.in-Err.ensures.number_value (omega (arith, h, few (goal.at.returns-in-Err-clause-number_value c).After-readings-row)) in
+    absurd (omega (arith, z, p))
