@@ -132,6 +132,12 @@ module _ {A : Type 0} where
   unfolding table
   padded-table f n m d h = rw length-table at (padded-set m d (table f n) (f n) (rw length-table h))
 
+  -- a loop that fills it: one turn
+  pub padded_next :
+      (f : ℕ → A) (m : ℕ) (d : A) {n : ℕ} {xs : List A} {x : A} → n < m → xs ≡ padded m d (table f n) → x ≡ f n
+      → set xs n x ≡ padded m d (table f (n + 1))
+  padded_next f m d {n} h e q = rw (e, q, add-one n) (padded-table f n m d h)
+
   -- an entry, whatever is read past the end
   pub padded-at : (f : ℕ → A) (n m i : ℕ) (d e : A) → i < n → get_or (padded m d (table f n)) i e ≡ f i
   unfolding padded

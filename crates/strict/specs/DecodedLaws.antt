@@ -1,6 +1,6 @@
 -- A cycle of what was decoded is a cycle of the strict system. Assumes nothing.
-use Rattle.std.specs.Prelude.{List, ◌≡◌, ℕ, suc, ◌*◌, ◌/◌, ◌%◌, ◌<◌, take}
-use Rattle.std.proofs.Common.{ap, ◌∙◌, arith}
+use Rattle.std.specs.Prelude.{List, ◌≡◌, ℤ, ℕ, suc, ◌+◌, ◌*◌, ◌/◌, ◌%◌, ◌<◌, take}
+use Rattle.std.proofs.Common.{ap, ◌∙◌, arith, add-one}
 use Rattle.std.proofs.Math.Nat.{add-zero}
 use Rattle.std.proofs.Math.IntN.{pos}
 use Rattle.std.proofs.Math.ListN.{length, get_or, get_or-eq_default}
@@ -65,7 +65,7 @@ module _ (img : List ℕ) (a : Accepted img) where
         rw (d.kinds.each n h, d.fed, value_at_lem t n, first, port-on t n 0 l (omega arith), port-on t n 1 l (omega arith), port-on t n 2 l (omega arith))
 
     -- so all values after a cycle are the next cycle's
-    pub values-after : (t : ℕ) → values_after system (values_at img t) ≡ values_at img (suc t)
+    values-after : (t : ℕ) → values_after system (values_at img t) ≡ values_at img (suc t)
     unfolding values_after values_at strict_cycle
     values-after t =
         let vs = strict_cycle img t in
@@ -75,6 +75,10 @@ module _ (img : List ℕ) (a : Accepted img) where
           over_same (value_after system old) (strict_next img vs) (nodes img) old (value_after_lem t),
           over_padded (strict_next img vs) (nodes img) 65 (pos 0) vs (omega (arith, length_cycle img t)),
         )
+
+    -- which is a turn of the loop over the cycles
+    pub values_next : (t : ℕ) {vs : List ℤ} → vs ≡ values_at img t → values_after system vs ≡ values_at img (t + 1)
+    values_next t e = rw (e, add-one t) (values-after t)
 
   -- and the first N of them are the cycle
   pub take-values : (t : ℕ) → take (nodes img) (values_at img t) ≡ strict_cycle img t

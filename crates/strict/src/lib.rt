@@ -41,6 +41,7 @@ impl System {
     }
 
     // The value on the port at a place.
+    #[tactic(auto, unfolding(crate::specs::Decoded::port_on))]
     fn brought(&self, values: &[i32; 65], at: usize) -> i32
         requires { at < 192 }
         ensures { result ≡ port_on values.now self.now.feeders at }
@@ -49,6 +50,7 @@ impl System {
     }
 
     // The next value of node n.
+    #[tactic(auto, unfolding(crate::specs::System::value_after))]
     fn next(&self, values: &[i32; 65], n: usize) -> i32
         requires { n < 64 }
         ensures { result ≡ value_after self.now values.now n }
@@ -60,6 +62,7 @@ impl System {
     }
 
     // The values after a cycle.
+    #[tactic(auto, using(laws::specs::TableLaws::over_next), unfolding(crate::specs::System::values_after, laws::specs::Table::table_over, laws::specs::Table::table))]
     fn after(&self, values: &[i32; 65]) -> [i32; 65]
         ensures { result ≡ values_after self.now values.now }
     {
@@ -72,6 +75,7 @@ impl System {
 }
 
 // The node that feeds each port.
+#[tactic(auto, unfolding(crate::specs::Decoded::feeders_below, netlist::specs::Ports::ports_below, netlist::specs::Readers::channel_at))]
 fn feeders_of(netlist: Netlist) -> [u8; 192]
     ensures { result ≡ feeders_below netlist.entry.image.now (channels netlist.entry.image.now) }
 {
@@ -84,6 +88,7 @@ fn feeders_of(netlist: Netlist) -> [u8; 192]
 }
 
 // The values of cycle 0: all parameters.
+#[tactic(auto, using(laws::specs::TableLaws::padded_next), unfolding(crate::specs::Decoded::values_at, crate::specs::Strict::strict_cycle, laws::specs::Table::table, laws::specs::Lists::padded, netlist::specs::Readers::core_at))]
 fn first(netlist: Netlist) -> [i32; 65]
     ensures { result ≡ values_at netlist.entry.image.now 0 }
 {
@@ -95,6 +100,7 @@ fn first(netlist: Netlist) -> [i32; 65]
 }
 
 // The values of a cycle.
+#[tactic(auto, using(netlist::specs::AcceptedLaws::accepted, crate::specs::DecodedLaws::values_next))]
 fn reached(netlist: Netlist, cycle: u32) -> [i32; 65]
     ensures { result ≡ values_at netlist.entry.image.now cycle }
 {
