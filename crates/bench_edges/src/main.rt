@@ -173,38 +173,25 @@ fn show_cycles(rt: &impl Print, alloc: Global) -> io::Result<()> {
 }
 
 fn show_stations(rt: &impl Print) -> io::Result<()> {
+    let offered = Cycle::new(true, 6, false);
+    let stopped = Cycle::new(false, 9, true);
+    let extreme = Cycle::new(true, i32::MAX, true);
     let cases = [
         (
             "no token comes, with a value beside it",
             station(1, 4, 0),
-            Cycle::new(false, 9, true),
+            stopped,
         ),
-        (
-            "two tokens of 0",
-            station(2, 0, 0),
-            Cycle::new(false, 9, true),
-        ),
+        ("two tokens of 0", station(2, 0, 0), stopped),
         (
             "full, not stopped, a token offered",
             station(2, 4, 5),
-            Cycle::new(true, 6, false),
+            offered,
         ),
-        (
-            "the ends of the range",
-            station(1, i32::MIN, 0),
-            Cycle::new(true, i32::MAX, true),
-        ),
-        ("a count of 3", station(3, 4, 5), Cycle::new(true, 6, false)),
-        (
-            "a count of 255",
-            station(255, 4, 5),
-            Cycle::new(true, 6, false),
-        ),
-        (
-            "one token and an unused 5",
-            station(1, 4, 5),
-            Cycle::new(true, 6, false),
-        ),
+        ("the ends of the range", station(1, i32::MIN, 0), extreme),
+        ("a count of 3", station(3, 4, 5), offered),
+        ("a count of 255", station(255, 4, 5), offered),
+        ("one token and an unused 5", station(1, 4, 5), offered),
         (
             "no token and an unused -1",
             station(0, -1, 0),
@@ -226,6 +213,7 @@ fn show_rows(rt: &impl Print) -> io::Result<()> {
     let empty = all(Station::empty());
     let misfits = all(station(3, 4, 5));
     let with_one = all(station(1, 4, 0));
+    let offered = [Cycle::new(true, 5, false)];
     let cases = [
         ("a row of 0", 0, empty),
         ("a row of 9", 9, empty),
@@ -240,12 +228,7 @@ fn show_rows(rt: &impl Print) -> io::Result<()> {
         ("a row of 8 with a token each", 8, with_one),
     ];
     for (label, length, records) in cases {
-        show(
-            rt,
-            label,
-            Row { records, length },
-            &[Cycle::new(true, 5, false)],
-        )?;
+        show(rt, label, Row { records, length }, &offered)?;
     }
     Ok(())
 }

@@ -14,7 +14,7 @@ use std::io;
 // One count node, parameter 5.
 const COUNTING: [u8; 7] = [1, 0, 1, 5, 0, 0, 0];
 
-// An image, and where it is printed what the engine answers.
+// An image, and where what the engine answers for it is printed.
 #[derive_where(Clone, Copy)]
 struct Bench<'a, P> {
     rt: &'a P,
@@ -76,15 +76,14 @@ impl<'a, P: Print> Bench<'a, P> {
 impl<'a, P: Print> Bench<'a, P> {
     // A letter, and its value unless it is the 0 that an I or an S carries.
     fn print_place(self, letter: Option<&u8>, value: Option<&i32>) -> io::Result<()> {
-        let rt = self.rt;
         let letter = letter.map(|&letter| char::from(letter));
-        print!(rt; " ")?;
+        print!(self.rt; " ")?;
         if let Some(letter) = letter {
-            print!(rt; "{letter}")?;
+            print!(self.rt; "{letter}")?;
         }
         match (letter, value) {
             (Some('I' | 'S'), Some(0)) => Ok(()),
-            (_, Some(value)) => print!(rt; "{value}"),
+            (_, Some(value)) => print!(self.rt; "{value}"),
             (_, None) => Ok(()),
         }
     }
@@ -97,24 +96,22 @@ impl<'a, P: Print> Bench<'a, P> {
     }
 
     // Each node's firings.
-    fn print_fired(self, state: State) -> io::Result<()> {
-        let rt = self.rt;
+    fn print_fired(self, state: &State) -> io::Result<()> {
         let nodes = usize::from(netlist::nodes(self.image));
-        print!(rt; "fired")?;
+        print!(self.rt; "fired")?;
         for node in state.nodes.iter().take(nodes) {
             let firings = node.firings;
-            print!(rt; " {firings}")?;
+            print!(self.rt; " {firings}")?;
         }
         Ok(())
     }
 
-    fn print_state(self, state: State) -> io::Result<()> {
-        let rt = self.rt;
+    fn print_state(self, state: &State) -> io::Result<()> {
         let cycles = state.cycles;
-        print!(rt; ": {cycles} cycles, ")?;
+        print!(self.rt; ": {cycles} cycles, ")?;
         self.print_fired(state)?;
         let value = state.nodes[0].value;
-        println!(rt; ", node 0 shows {value}")
+        println!(self.rt; ", node 0 shows {value}")
     }
 }
 
@@ -123,36 +120,33 @@ impl<'a, P: Print> Bench<'a, P> {
 impl<'a, P: Print> Bench<'a, P> {
     // One cycle's line, of eight channels at most.
     fn cycle(self, state: State, word: u64, cycle: usize) -> io::Result<State> {
-        let rt = self.rt;
         let channels = usize::from(netlist::channels(self.image)).min(8);
         let mut letters = [0; 8];
         let mut values = [0; 8];
         let letters = &mut letters[..channels];
         let values = &mut values[..channels];
         let (_, state) = self.stepped(state, word, letters, values);
-        print!(rt; "{cycle}")?;
+        print!(self.rt; "{cycle}")?;
         self.print_places(letters, values)?;
-        println!(rt;)?;
+        println!(self.rt;)?;
         Ok(state)
     }
 
     // A trace from the fresh state, a byte a stall word.
     fn trace(self, words: &[u8]) -> io::Result<()> {
-        let rt = self.rt;
         let mut state = self.fresh();
         for (cycle, &word) in words.iter().enumerate() {
             state = self.cycle(state, u64::from(word), cycle)?;
         }
-        self.print_fired(state)?;
-        println!(rt;)
+        self.print_fired(&state)?;
+        println!(self.rt;)
     }
 
     // A refused image has no state but zeros.
     fn show_fresh(self, label: &str) -> io::Result<()> {
-        let rt = self.rt;
         let (number, state) = self.begun();
-        print!(rt; "{label}: {number}")?;
-        self.print_state(state)
+        print!(self.rt; "{label}: {number}")?;
+        self.print_state(&state)
     }
 
     // A step on arrays of so many places, six at most.
@@ -164,15 +158,14 @@ impl<'a, P: Print> Bench<'a, P> {
         letters: usize,
         values: usize,
     ) -> io::Result<()> {
-        let rt = self.rt;
         let mut six_letters = [b'.'; 6];
         let mut six_values = [7; 6];
         let letters = &mut six_letters[..letters.min(6)];
         let values = &mut six_values[..values.min(6)];
         let (number, state) = self.stepped(state, word, letters, values);
-        print!(rt; "{label}: {number}:")?;
+        print!(self.rt; "{label}: {number}:")?;
         self.print_places(letters, values)?;
-        self.print_state(state)
+        self.print_state(&state)
     }
 
     fn step(self, label: &str, state: State, word: u64) -> io::Result<()> {
@@ -180,10 +173,9 @@ impl<'a, P: Print> Bench<'a, P> {
     }
 
     fn run(self, label: &str, state: State, words: &[u64]) -> io::Result<State> {
-        let rt = self.rt;
         let (number, steps, state) = self.ran(state, words);
-        print!(rt; "{label}: {number}, {steps} steps")?;
-        self.print_state(state)?;
+        print!(self.rt; "{label}: {number}, {steps} steps")?;
+        self.print_state(&state)?;
         Ok(state)
     }
 }
