@@ -1,211 +1,225 @@
-// The second simulator's netlist and state, in one flat array of numbers. It has its own layout:
-// all tokens of a channel, from the oldest in the queue to the pending one, stand in one ring in
-// their order, and beside it is kept how many of them are at each place. A token that passes a link
-// does not move: two counts change. Values are kept as their 32 bits.
-use crate::cells::{Cells, byte, get, in_32s, in_tens, in_threes, less_one, plus, put};
+// The second simulator's netlist and state, and its cycle. It goes from the last channel to the first,
+// and on a channel from the queue back to the from node, so that every token is handed on in place.
 
-// What stands where. Single numbers:
-pub(crate) const NODES: u64 = 0;
+use crate::channel::Channel;
+use crate::kind::Kind;
+use crate::library;
+use crate::library::{Held, Queue, State, Station};
+use crate::places::{change, set};
+use crate::plan::{Core, Plan, Wire};
+use crate::refusal::{Failure, Refusal};
+use std::alloc::{AllocError, Global};
 
-pub(crate) const CHANNELS: u64 = 1;
+// The last cycle.
+pub(crate) const LAST: u32 = 1000000;
 
-pub(crate) const CYCLES: u64 = 2;
-// the number and the steps of the last call,
-pub(crate) const NUMBER: u64 = 3;
-
-pub(crate) const STEPS: u64 = 4;
-// a number a node: whether it may fire comes last,
-pub(crate) const KIND: u64 = 64;
-
-pub(crate) const PARAMETER: u64 = 128;
-
-pub(crate) const VALUE: u64 = 192;
-
-pub(crate) const FIRED: u64 = 256;
-
-pub(crate) const FREE: u64 = 320;
-// the channel that feeds each port, three a node,
-pub(crate) const FEED: u64 = 384;
-// a number a channel,
-pub(crate) const FROM: u64 = 576;
-
-pub(crate) const TO: u64 = 672;
-
-pub(crate) const PORT: u64 = 768;
-
-pub(crate) const STATIONS: u64 = 864;
-
-pub(crate) const DEPTH: u64 = 960;
-// where the ring's oldest token stands, and how many there are,
-pub(crate) const HEAD: u64 = 1056;
-
-pub(crate) const HELD: u64 = 1152;
-// the last cycle's letter and value,
-pub(crate) const LETTER: u64 = 1248;
-
-pub(crate) const SHOWN: u64 = 1344;
-// how many tokens have arrived since the fresh state,
-pub(crate) const ARRIVED: u64 = 1440;
-// ten counts a channel: pending, stations 1 to 8, queue,
-pub(crate) const COUNT: u64 = 1536;
-// a ring of 32 tokens a channel,
-pub(crate) const RING: u64 = 2560;
-// and the strict values of 64 cycles, 64 nodes each.
-pub(crate) const HISTORY: u64 = 5632;
-
-// The places of a channel where tokens are counted, from the front: 0 is the pending token's, then
-// the stations', and this is the queue's.
-pub(crate) const QUEUE: u64 = 9;
-
-// ---- places and tokens of a channel
-
-pub(crate) fn count_at(cells: &Cells, c: u64, k: u64) -> u64 {
-    get(cells, COUNT, in_tens(c, k))
+#[derive(Clone, Copy)]
+pub(crate) struct Node {
+    pub kind: Kind,
+    pub value: i32,
+    pub firings: u32,
+    // whether it may fire in this cycle
+    free: bool,
+    // the channel that feeds each port
+    feeds: [usize; 3],
 }
 
-pub(crate) fn set_count(cells: &mut Cells, c: u64, k: u64, count: u64) {
-    put(cells, COUNT, in_tens(c, k), count);
+#[derive(Drop)]
+pub(crate) struct Chip {
+    pub cycles: u32,
+    pub nodes: Vec<Node>,
+    pub channels: Vec<Channel>,
 }
 
-pub(crate) fn clear_ring(cells: &mut Cells, c: u64) {
-    put(cells, HEAD, c, 0);
-    put(cells, HELD, c, 0);
-}
+impl Node {
+    fn new(core: Core, shown: library::Node) -> Result<Self, Refusal> {
+        Ok(Node {
+            kind: Kind::try_from(core.kind)?,
+            value: shown.value,
+            firings: shown.firings,
+            free: true,
+            feeds: [0; 3],
+        })
+    }
 
-fn ring_place(cells: &Cells, c: u64, k: u64) -> u64 {
-    in_32s(c, get(cells, HEAD, c) % 32 + k % 32)
-}
+    fn shown(self) -> library::Node {
+        library::Node {
+            value: self.value,
+            firings: self.firings,
+        }
+    }
 
-// The token that has k older ones before it on the channel.
-pub(crate) fn token(cells: &Cells, c: u64, k: u64) -> u64 {
-    get(cells, RING, ring_place(cells, c, k))
-}
-
-// A new youngest token.
-pub(crate) fn enter(cells: &mut Cells, c: u64, value: u64) {
-    let held = get(cells, HELD, c);
-    let at = ring_place(cells, c, held);
-    put(cells, RING, at, value);
-    put(cells, HELD, c, plus(held, 1));
-}
-
-pub(crate) fn enter_if(cells: &mut Cells, c: u64, value: u64, there: bool) {
-    if there {
-        enter(cells, c, value);
+    // The node takes its inputs, if it may fire, and shows its next value.
+    fn fire(&mut self, channels: &mut [Channel]) {
+        if self.free {
+            let mut taken = [0; 3];
+            let ports = taken.iter_mut().zip(self.feeds.iter());
+            for (token, c) in ports.take(self.kind.inputs()) {
+                if let Some(channel) = channels.get_mut(*c) {
+                    *token = channel.take();
+                }
+            }
+            let [a, b, c] = taken;
+            self.value = self.kind.next(self.value, a, b, c);
+            self.firings = self.firings.saturating_add(1);
+        }
     }
 }
 
-// Takes the oldest token.
-pub(crate) fn leave(cells: &mut Cells, c: u64) -> u64 {
-    let oldest = token(cells, c, 0);
-    let head = (get(cells, HEAD, c) % 32 + 1) % 32;
-    let held = less_one(get(cells, HELD, c));
-    put(cells, HEAD, c, head);
-    put(cells, HELD, c, held);
-    oldest
+// That channel c feeds a port.
+fn feed(nodes: &mut [Node], c: usize, wire: Wire) {
+    change(nodes, usize::from(wire.to), |node| {
+        set(&mut node.feeds, usize::from(wire.port), c);
+    });
 }
 
-// ---- the netlist
+// The node at one end of a channel does not fire in this cycle.
+fn bar(nodes: &mut [Node], n: u8) {
+    change(nodes, usize::from(n), |node| node.free = false);
+}
 
-// How many inputs a kind has.
-pub(crate) fn inputs(kind: u64) -> u64 {
-    match kind {
-        2 | 3 | 4 | 5 => 1,
-        6 | 7 | 8 => 2,
-        9 => 3,
-        _ => 0,
+// ---- from states and to them
+
+// What a channel holds at first: the from node's parameter, pending.
+fn one_pending() -> Held {
+    Held {
+        pending: 1,
+        row: [Station::empty(); 8],
+        queue: Queue::empty(),
     }
 }
 
-// Where the image's four arrays begin: kinds at 2, then parameters, wires and depths.
-pub(crate) fn parameter_place(nodes: u64, n: u64) -> u64 {
-    2 + nodes % 256 + 4 * (n % 256)
-}
+impl Chip {
+    fn add_channel(&mut self, alloc: Global, wire: Wire, held: &Held) -> Result<(), AllocError> {
+        let from = self.nodes.get(usize::from(wire.from));
+        let value = from.map_or(0, |node| node.value);
+        feed(&mut self.nodes, self.channels.len(), wire);
+        self.channels
+            .push(Channel::load(alloc, wire, held, value)?)?;
+        Ok(())
+    }
 
-pub(crate) fn wire_place(nodes: u64, c: u64) -> u64 {
-    2 + 5 * (nodes % 256) + 3 * (c % 256)
-}
+    fn empty(alloc: Global, cycles: u32) -> Self {
+        Chip {
+            cycles,
+            nodes: Vec::new(alloc),
+            channels: Vec::new(alloc),
+        }
+    }
 
-pub(crate) fn depth_place(nodes: u64, channels: u64, c: u64) -> u64 {
-    2 + 5 * (nodes % 256) + 3 * (channels % 256) + 2 * (c % 256)
-}
+    // An accepted netlist in its fresh state.
+    pub(crate) fn fresh(alloc: Global, plan: &Plan) -> Result<Self, Failure> {
+        let mut chip = Chip::empty(alloc, 0);
+        for core in plan.cores.iter() {
+            let shown = library::Node {
+                value: core.parameter,
+                firings: 0,
+            };
+            chip.nodes.push(Node::new(*core, shown)?)?;
+        }
+        for wire in plan.wires.iter() {
+            chip.add_channel(alloc, *wire, &one_pending())?;
+        }
+        Ok(chip)
+    }
 
-pub(crate) fn image_length(nodes: u64, channels: u64) -> u64 {
-    2 + 5 * (nodes % 256) + 5 * (channels % 256)
-}
+    // An accepted netlist in a state that fits it.
+    pub(crate) fn load(alloc: Global, plan: &Plan, state: &State) -> Result<Self, Failure> {
+        let mut chip = Chip::empty(alloc, state.cycles);
+        for (core, shown) in plan.cores.iter().zip(state.nodes.iter()) {
+            chip.nodes.push(Node::new(*core, *shown)?)?;
+        }
+        for (c, wire) in plan.wires.iter().enumerate() {
+            chip.add_channel(alloc, *wire, &library::held_on(state, c))?;
+        }
+        Ok(chip)
+    }
 
-// Byte k of four, in its place in a number.
-fn lifted(image: &[u8], at: u64, k: u64, unit: u64) -> u64 {
-    let low = byte(image, plus(at, k)) % 256;
-    match unit {
-        0 => low,
-        1 => low * 256,
-        2 => low * 65536,
-        _ => low * 16777216,
+    // Its state; what the netlist does not have is 0.
+    pub(crate) fn state(&self) -> State {
+        let mut state = library::zeros();
+        state.cycles = self.cycles;
+        for (shown, node) in state.nodes.iter_mut().zip(self.nodes.iter()) {
+            *shown = node.shown();
+        }
+        for (c, channel) in self.channels.iter().enumerate() {
+            library::put_held(&mut state, c, channel.held());
+        }
+        state
     }
 }
 
-pub(crate) fn parameter(image: &[u8], nodes: u64, n: u64) -> u64 {
-    let at = parameter_place(nodes, n);
-    let low = plus(lifted(image, at, 0, 0), lifted(image, at, 1, 1));
-    let high = plus(lifted(image, at, 2, 2), lifted(image, at, 3, 3));
-    plus(low, high)
-}
+// ---- a cycle
 
-fn decode_node(image: &[u8], cells: &mut Cells, nodes: u64, n: u64) {
-    put(cells, KIND, n, byte(image, plus(2, n)));
-    put(cells, PARAMETER, n, parameter(image, nodes, n));
-}
-
-fn decode_nodes(image: &[u8], cells: &mut Cells, nodes: u64) {
-    let mut left = nodes;
-    while 0 < left {
-        left -= 1;
-        decode_node(image, cells, nodes, left);
+impl Chip {
+    // Splits a word into its bits, from bit 0 on: a node may fire if its own is clear. Refused in the
+    // last cycle, and if a bit is set that is no node's.
+    pub(crate) fn stall(&mut self, word: u64) -> Result<(), Refusal> {
+        if LAST <= self.cycles {
+            return Err(Refusal::LastCycle);
+        }
+        let mut rest = word;
+        for node in self.nodes.iter_mut() {
+            node.free = rest % 2 == 0;
+            rest /= 2;
+        }
+        if rest != 0 {
+            return Err(Refusal::Word);
+        }
+        Ok(())
     }
-}
 
-fn decode_channel(image: &[u8], cells: &mut Cells, nodes: u64, channels: u64, c: u64) {
-    let wire = wire_place(nodes, c);
-    let depths = depth_place(nodes, channels, c);
-    let to = byte(image, plus(wire, 1));
-    let port = byte(image, plus(wire, 2));
-    put(cells, FROM, c, byte(image, wire));
-    put(cells, TO, c, to);
-    put(cells, PORT, c, port);
-    put(cells, STATIONS, c, byte(image, depths));
-    put(cells, DEPTH, c, byte(image, plus(depths, 1)));
-    put(cells, FEED, in_threes(to, port), c);
-}
-
-// A channel that is not there has no stations, and a queue of depth 0.
-fn clear_channel(cells: &mut Cells, c: u64) {
-    put(cells, STATIONS, c, 0);
-    put(cells, DEPTH, c, 0);
-}
-
-fn decode_or_clear(image: &[u8], cells: &mut Cells, nodes: u64, channels: u64, c: u64) {
-    if c < channels {
-        decode_channel(image, cells, nodes, channels, c);
-    } else {
-        clear_channel(cells, c);
+    // Which nodes fire, and what the arriving links show.
+    fn settle(&mut self) {
+        for channel in self.channels.iter_mut().rev() {
+            if channel.starves() {
+                bar(&mut self.nodes, channel.wire.to);
+            }
+            if channel.blocks() {
+                bar(&mut self.nodes, channel.wire.from);
+            }
+            channel.read();
+        }
     }
-}
 
-fn decode_channels(image: &[u8], cells: &mut Cells, nodes: u64, channels: u64) {
-    let mut left: u64 = 96;
-    while 0 < left {
-        left -= 1;
-        decode_or_clear(image, cells, nodes, channels, left);
+    fn pass(&mut self) {
+        for channel in self.channels.iter_mut().rev() {
+            channel.pass();
+        }
     }
-}
 
-// Reads an accepted image.
-pub(crate) fn decode(image: &[u8], cells: &mut Cells) {
-    let nodes = byte(image, 0);
-    let channels = byte(image, 1);
-    put(cells, NODES, 0, nodes);
-    put(cells, CHANNELS, 0, channels);
-    decode_nodes(image, cells, nodes);
-    decode_channels(image, cells, nodes, channels);
+    fn fire(&mut self) {
+        for node in self.nodes.iter_mut().rev() {
+            node.fire(&mut self.channels);
+        }
+    }
+
+    fn send(&mut self) -> Result<(), AllocError> {
+        for channel in self.channels.iter_mut().rev() {
+            if let Some(node) = self.nodes.get(usize::from(channel.wire.from)) {
+                if node.free {
+                    channel.send(node.value)?;
+                }
+            }
+        }
+        Ok(())
+    }
+
+    // One cycle, after a word.
+    pub(crate) fn cycle(&mut self) -> Result<(), AllocError> {
+        self.settle();
+        self.pass();
+        self.fire();
+        self.send()?;
+        self.cycles = self.cycles.saturating_add(1);
+        Ok(())
+    }
+
+    // The node that feeds a port, by its number.
+    pub(crate) fn source(&self, node: &Node, port: usize) -> usize {
+        let c = node.feeds.get(port).copied().unwrap_or(0);
+        self.channels
+            .get(c)
+            .map_or(0, |channel| usize::from(channel.wire.from))
+    }
 }

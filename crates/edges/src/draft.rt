@@ -1,256 +1,212 @@
-// Netlists at random, every one of them accepted, and the dice that all tests here are thrown with.
-use crate::cells::{Bytes, Cells, get, plus, put, put_byte};
-use crate::chip;
+// Netlists at random, every one of them accepted.
+
+use crate::dice::Dice;
+use crate::kind::Kind;
+use crate::plan::{Core, Plan, Wire, byte};
+use std::alloc::{AllocError, Global};
+
+const MOST_CHANNELS: usize = 96;
+
+const MOST_STATIONS: u32 = 256;
 
 // The shapes of netlists.
-pub(crate) const RINGS: u64 = 0;
-
-pub(crate) const RECONVERGENT: u64 = 1;
-
-pub(crate) const SELF_LOOPS: u64 = 2;
-
-pub(crate) const FAN_OUT: u64 = 3;
-
-pub(crate) const MIXED: u64 = 4;
-
-pub(crate) const LARGE: u64 = 5;
-
-// What a draft has: the dice, the shape, N and C, the next channel, all stations so far, and by how
-// much the channels' order is turned.
-const DICE: u64 = 9800;
-
-const SHAPE: u64 = 9801;
-
-pub(crate) const NODES: u64 = 9802;
-
-pub(crate) const CHANNELS: u64 = 9803;
-
-const NEXT: u64 = 9804;
-
-const STATIONS: u64 = 9805;
-
-const SHIFT: u64 = 9806;
-
-// ---- dice
-
-pub(crate) fn seed(cells: &mut Cells, number: u64) {
-    put(cells, DICE, 0, number);
+#[derive(Clone, Copy, PartialEq, Eq)]
+pub(crate) enum Shape {
+    Rings,
+    Reconvergent,
+    SelfLoops,
+    FanOut,
+    Mixed,
+    Large,
 }
 
-// A number below sides, which are at most 32768.
-pub(crate) fn roll(cells: &mut Cells, sides: u64) -> u64 {
-    let thrown = (get(cells, DICE, 0) % 2147483648 * 1103515245 + 12345) % 2147483648;
-    put(cells, DICE, 0, thrown);
-    if sides == 0 {
-        return 0;
+impl Shape {
+    pub(crate) fn label(self) -> &'static str {
+        match self {
+            Shape::Rings => "rings",
+            Shape::Reconvergent => "reconvergent paths",
+            Shape::SelfLoops => "self loops",
+            Shape::FanOut => "fan-out",
+            Shape::Mixed => "mixed",
+            Shape::Large => "large",
+        }
     }
-    thrown / 65536 % sides
+
+    // The seed of a group's dice.
+    pub(crate) fn seed(self) -> u64 {
+        self as u64
+    }
 }
 
-pub(crate) fn one_in(cells: &mut Cells, sides: u64) -> bool {
-    roll(cells, sides) == 0
-}
+// ---- parameters and kinds
 
-// 64 bits.
-pub(crate) fn roll_word(cells: &mut Cells) -> u64 {
-    let a = roll(cells, 32768) % 32768;
-    let b = roll(cells, 32768) % 32768;
-    let c = roll(cells, 32768) % 32768;
-    let d = roll(cells, 32768) % 32768;
-    let e = roll(cells, 16) % 16;
-    a + b * 32768 + c * 1073741824 + d * 35184372088832 + e * 1152921504606846976
-}
-
-// A value's bits: small, at the ends of the range, or any.
-pub(crate) fn roll_value(cells: &mut Cells) -> u64 {
-    let face = roll(cells, 8);
-    match face {
-        0 => 2147483647,
-        1 => 2147483648,
-        2 => 4294967295,
-        3 => 4294967293,
-        4 => roll(cells, 10),
+// Small, at the ends of the range, or any.
+fn roll_parameter(dice: &mut Dice) -> i32 {
+    match dice.roll(8) {
+        0 => i32::MAX,
+        1 => i32::MIN,
+        2 => -1,
+        3 => -3,
+        4 => i32::from(dice.roll_byte(10)),
         5 => 1,
         6 => 0,
-        _ => roll_word(cells) % 4294967296,
+        _ => ((dice.roll_word() % 4294967296) as u32).cast_signed(),
+    }
+}
+
+// Kinds with inputs: one, then more.
+const KINDS: [Kind; 9] = [
+    Kind::Count,
+    Kind::Hold,
+    Kind::Total,
+    Kind::Negate,
+    Kind::Halve,
+    Kind::Sum,
+    Kind::Difference,
+    Kind::Larger,
+    Kind::Choose,
+];
+
+fn pick(dice: &mut Dice, kinds: &[Kind]) -> Kind {
+    let face = dice.roll(kinds.len());
+    kinds.get(face).copied().unwrap_or(Kind::Count)
+}
+
+// The first node of reconvergent paths and of a fan-out counts, and no node of a ring.
+fn roll_kind(dice: &mut Dice, shape: Shape, n: usize) -> Kind {
+    match shape {
+        Shape::Rings => {
+            if dice.one_in(4) {
+                pick(dice, &KINDS[5..])
+            } else {
+                pick(dice, &KINDS[1..5])
+            }
+        }
+        Shape::Reconvergent | Shape::FanOut if n == 0 => Kind::Count,
+        Shape::Reconvergent | Shape::FanOut | Shape::SelfLoops => pick(dice, &KINDS[1..]),
+        Shape::Mixed | Shape::Large => pick(dice, &KINDS),
     }
 }
 
 // ---- nodes
 
-// More than half as many as there may be, and often all.
-fn large_nodes(cells: &mut Cells) -> u64 {
-    if one_in(cells, 3) {
-        return 64;
-    }
-    plus(33, roll(cells, 31))
-}
-
-fn roll_nodes(cells: &mut Cells, shape: u64) -> u64 {
+// Large is more than half as many as there may be, and often all.
+fn roll_nodes(dice: &mut Dice, shape: Shape) -> usize {
     match shape {
-        0 => plus(1, roll(cells, 8)),
-        1 => plus(3, roll(cells, 6)),
-        2 => plus(1, roll(cells, 6)),
-        3 => plus(2, roll(cells, 10)),
-        4 => plus(1, roll(cells, 12)),
-        _ => large_nodes(cells),
+        Shape::Rings => dice.roll_between(1, 8),
+        Shape::Reconvergent => dice.roll_between(3, 8),
+        Shape::SelfLoops => dice.roll_between(1, 6),
+        Shape::FanOut => dice.roll_between(2, 11),
+        Shape::Mixed => dice.roll_between(1, 12),
+        Shape::Large => {
+            if dice.one_in(3) {
+                64
+            } else {
+                dice.roll_between(33, 63)
+            }
+        }
     }
 }
 
-fn ring_kind(cells: &mut Cells) -> u64 {
-    if one_in(cells, 4) {
-        return plus(6, roll(cells, 4));
-    }
-    plus(2, roll(cells, 4))
-}
-
-// The first node of reconvergent paths and of a fan-out counts.
-fn roll_kind(cells: &mut Cells, shape: u64, n: u64) -> u64 {
-    if shape == RINGS {
-        return ring_kind(cells);
-    }
-    if ((shape == RECONVERGENT) | (shape == FAN_OUT)) & (n == 0) {
-        return 1;
-    }
-    if shape < MIXED {
-        return plus(2, roll(cells, 8));
-    }
-    plus(1, roll(cells, 9))
-}
-
-fn put_parameter(image: &mut Bytes, at: u64, value: u64) {
-    put_byte(image, at, value);
-    put_byte(image, plus(at, 1), value / 256);
-    put_byte(image, plus(at, 2), value / 65536);
-    put_byte(image, plus(at, 3), value / 16777216);
-}
-
-// One node; it only counts if the channels would be over 96.
-fn draft_node(image: &mut Bytes, cells: &mut Cells, n: u64) {
-    let shape = get(cells, SHAPE, 0);
-    let nodes = get(cells, NODES, 0);
-    let channels = get(cells, CHANNELS, 0);
-    let mut kind = roll_kind(cells, shape, n);
-    if 96 < plus(channels, chip::inputs(kind)) {
-        kind = 1;
-    }
-    put(cells, CHANNELS, 0, plus(channels, chip::inputs(kind)));
-    put_byte(image, plus(2, n), kind);
-    let value = roll_value(cells);
-    put_parameter(image, chip::parameter_place(nodes, n), value);
-}
-
-fn draft_nodes(image: &mut Bytes, cells: &mut Cells) {
-    let nodes = get(cells, NODES, 0);
+// A node only counts if the channels would be over 96.
+fn roll_cores(
+    alloc: Global,
+    dice: &mut Dice,
+    shape: Shape,
+    nodes: usize,
+) -> Result<Vec<Core>, AllocError> {
+    let mut cores = Vec::new(alloc);
+    let mut channels: usize = 0;
     for n in 0..nodes {
-        draft_node(image, cells, n);
+        let mut kind = roll_kind(dice, shape, n);
+        if MOST_CHANNELS < channels.saturating_add(kind.inputs()) {
+            kind = Kind::Count;
+        }
+        channels = channels.saturating_add(kind.inputs());
+        cores.push(Core {
+            kind: kind as u8,
+            parameter: roll_parameter(dice),
+        })?;
     }
+    Ok(cores)
 }
 
 // ---- channels
 
-// The node that feeds port p of node n.
-fn roll_source(cells: &mut Cells, n: u64, p: u64) -> u64 {
-    let shape = get(cells, SHAPE, 0);
-    let nodes = get(cells, NODES, 0);
-    if (shape == RINGS) & (p == 0) {
-        return before_in_ring(n, nodes);
+fn before_in_ring(n: usize, nodes: usize) -> usize {
+    if n == 0 {
+        nodes.saturating_sub(1)
+    } else {
+        n - 1
     }
-    if (shape == SELF_LOOPS) & (p == 0) {
-        return n;
+}
+
+// The node that feeds a port of node n. The dice of a fan-out are thrown for any shape.
+fn roll_source(dice: &mut Dice, shape: Shape, nodes: usize, n: usize, port: usize) -> usize {
+    match shape {
+        Shape::Rings if port == 0 => return before_in_ring(n, nodes),
+        Shape::SelfLoops if port == 0 => return n,
+        Shape::Reconvergent => return dice.roll(n),
+        _ => {}
     }
-    if shape == RECONVERGENT {
-        return roll(cells, n);
-    }
-    if (shape == FAN_OUT) & !one_in(cells, 4) {
+    let other = dice.one_in(4);
+    if shape == Shape::FanOut && !other {
         return 0;
     }
-    roll(cells, nodes)
+    dice.roll(nodes)
 }
 
-fn before_in_ring(n: u64, nodes: u64) -> u64 {
-    if 0 < n {
-        return n - 1;
+// With so many on the channels before.
+fn roll_stations(dice: &mut Dice, before: u32) -> u8 {
+    let mut stations = dice.roll_byte(3);
+    if dice.one_in(3) {
+        stations = dice.roll_byte(9);
     }
-    if 0 < nodes {
-        return nodes - 1;
+    if MOST_STATIONS < before.saturating_add(u32::from(stations)) {
+        return 0;
     }
-    0
-}
-
-fn roll_stations(cells: &mut Cells) -> u64 {
-    let total = get(cells, STATIONS, 0);
-    let mut stations = roll(cells, 3);
-    if one_in(cells, 3) {
-        stations = roll(cells, 9);
-    }
-    if 256 < plus(total, stations) {
-        stations = 0;
-    }
-    put(cells, STATIONS, 0, plus(total, stations));
     stations
 }
 
-fn roll_depth(cells: &mut Cells) -> u64 {
-    if one_in(cells, 2) {
-        return plus(1, roll(cells, 8));
+fn roll_depth(dice: &mut Dice) -> u8 {
+    let most = if dice.one_in(2) { 8 } else { 2 };
+    byte(dice.roll_between(1, most))
+}
+
+fn roll_wires(
+    alloc: Global,
+    dice: &mut Dice,
+    shape: Shape,
+    cores: &[Core],
+) -> Result<Vec<Wire>, AllocError> {
+    let mut wires = Vec::new(alloc);
+    let mut total: u32 = 0;
+    for (n, core) in cores.iter().enumerate() {
+        for port in 0..core.inputs() {
+            let from = roll_source(dice, shape, cores.len(), n, port);
+            let stations = roll_stations(dice, total);
+            total = total.saturating_add(u32::from(stations));
+            wires.push(Wire {
+                from: byte(from),
+                to: byte(n),
+                port: byte(port),
+                stations,
+                depth: roll_depth(dice),
+            })?;
+        }
     }
-    plus(1, roll(cells, 2))
+    Ok(wires)
 }
 
-// The next channel, at its place in an order that is turned.
-fn next_channel(cells: &mut Cells) -> u64 {
-    let next = get(cells, NEXT, 0);
-    let channels = get(cells, CHANNELS, 0);
-    put(cells, NEXT, 0, plus(next, 1));
-    if channels == 0 {
-        return 0;
+// A netlist of a shape. The order of its channels is turned.
+pub(crate) fn roll_plan(alloc: Global, dice: &mut Dice, shape: Shape) -> Result<Plan, AllocError> {
+    let nodes = roll_nodes(dice, shape);
+    let shift = dice.roll(MOST_CHANNELS);
+    let cores = roll_cores(alloc, dice, shape, nodes)?;
+    let mut wires = roll_wires(alloc, dice, shape, &cores)?;
+    if !wires.is_empty() {
+        let turn = shift % wires.len();
+        wires.rotate_right(turn);
     }
-    plus(next, get(cells, SHIFT, 0)) % channels
-}
-
-fn draft_channel(image: &mut Bytes, cells: &mut Cells, n: u64, p: u64) {
-    let c = next_channel(cells);
-    let wire = chip::wire_place(get(cells, NODES, 0), c);
-    let depths = chip::depth_place(get(cells, NODES, 0), get(cells, CHANNELS, 0), c);
-    let from = roll_source(cells, n, p);
-    let stations = roll_stations(cells);
-    let depth = roll_depth(cells);
-    put_byte(image, wire, from);
-    put_byte(image, plus(wire, 1), n);
-    put_byte(image, plus(wire, 2), p);
-    put_byte(image, depths, stations);
-    put_byte(image, plus(depths, 1), depth);
-}
-
-fn draft_inputs(image: &mut Bytes, cells: &mut Cells, n: u64, inputs: u64) {
-    for p in 0..inputs {
-        draft_channel(image, cells, n, p);
-    }
-}
-
-fn draft_channels(image: &mut Bytes, cells: &mut Cells) {
-    let nodes = get(cells, NODES, 0);
-    for n in 0..nodes {
-        let kind = crate::cells::byte(image, plus(2, n));
-        draft_inputs(image, cells, n, chip::inputs(kind));
-    }
-}
-
-// A netlist of a shape; answers the image's length.
-pub(crate) fn netlist(image: &mut Bytes, cells: &mut Cells, shape: u64) -> u64 {
-    let nodes = roll_nodes(cells, shape);
-    let shift = roll(cells, 96);
-    put(cells, SHAPE, 0, shape);
-    put(cells, NODES, 0, nodes);
-    put(cells, CHANNELS, 0, 0);
-    put(cells, NEXT, 0, 0);
-    put(cells, STATIONS, 0, 0);
-    put(cells, SHIFT, 0, shift);
-    draft_nodes(image, cells);
-    draft_channels(image, cells);
-    let channels = get(cells, CHANNELS, 0);
-    put_byte(image, 0, nodes);
-    put_byte(image, 1, channels);
-    chip::image_length(nodes, channels)
+    Ok(Plan { cores, wires })
 }

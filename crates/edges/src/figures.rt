@@ -1,241 +1,171 @@
-// The edges of the papers: the largest netlists, table 1 of source document 004 and figure 4 of source
-// document 000. What the engine answers is printed, and compared with the second simulator.
-use crate::cells::{Bytes, Cells, bits, least, plus, put, put_byte};
-use crate::compare::Rooms;
-use crate::{chip, compare, picture, rows, second};
-use relay::Station;
-use state::State;
+// The largest netlists, ten cycles of one station, and a netlist of five nodes in which every letter is
+// shown. What the engine answers is printed, and compared with the second simulator.
+
+use crate::kind::Kind;
+use crate::library::{Coming, Rooms, State, Station, Stepped};
+use crate::plan::{Core, Plan, Wire, byte};
+use crate::streams::Streams;
+use crate::tester::Tester;
+use crate::{library, rows};
+use std::alloc::{AllocError, Global};
 use std::io;
-
-// ---- printing
-
-fn print(rt: &impl Print, text: &[u8]) -> io::Result<()> {
-    rt.write_all(text)
-}
-
-// A minus sign if the value is negative, and how far it lies from 0.
-fn print_signed(rt: &impl Print, value: i32) -> io::Result<()> {
-    if value < 0 {
-        print(rt, b"-")?;
-    }
-    rt.print(output::magnitude(value))
-}
 
 // ---- limits
 
-// Nodes 0 to 31 choose and the others count; each port has a channel of its own. The stations stand on
-// the first channels, eight each.
-fn limit_node(image: &mut Bytes, n: u64) {
-    if n < 32 {
-        put_byte(image, plus(2, n), 9);
-    } else {
-        put_byte(image, plus(2, n), 1);
+// Nodes 0 to 31 choose and the others count.
+fn limit_cores(alloc: Global, nodes: usize) -> Result<Vec<Core>, AllocError> {
+    let mut cores = Vec::new(alloc);
+    for n in 0..nodes {
+        let kind = if n < 32 { Kind::Choose } else { Kind::Count };
+        cores.push(Core {
+            kind: kind as u8,
+            parameter: 0,
+        })?;
     }
+    Ok(cores)
 }
 
-fn stations_on(c: u64, total: u64) -> u64 {
-    let before = c % 256 * 8;
-    if before < total {
-        return least(8, total - before);
+// Each port has a channel of its own. The stations stand on the first channels, eight each.
+fn limit_wires(alloc: Global, channels: usize, stations: usize) -> Result<Vec<Wire>, AllocError> {
+    let mut wires = Vec::new(alloc);
+    let mut left = stations;
+    for c in 0..channels {
+        let here = left.min(8);
+        left -= here;
+        wires.push(Wire {
+            from: byte(c % 64),
+            to: byte(c / 3),
+            port: byte(c % 3),
+            stations: byte(here),
+            depth: 1,
+        })?;
     }
-    0
-}
-
-fn limit_channel(image: &mut Bytes, nodes: u64, channels: u64, total: u64, c: u64) {
-    let wire = chip::wire_place(nodes, c);
-    let depths = chip::depth_place(nodes, channels, c);
-    put_byte(image, wire, c % 64);
-    put_byte(image, plus(wire, 1), c / 3);
-    put_byte(image, plus(wire, 2), c % 3);
-    put_byte(image, depths, stations_on(c, total));
-    put_byte(image, plus(depths, 1), 1);
-}
-
-fn limit_nodes(image: &mut Bytes, nodes: u64) {
-    let mut left = nodes;
-    while 0 < left {
-        left -= 1;
-        limit_node(image, left);
-    }
-}
-
-fn limit_channels(image: &mut Bytes, nodes: u64, channels: u64, total: u64) {
-    let mut left = channels;
-    while 0 < left {
-        left -= 1;
-        limit_channel(image, nodes, channels, total, left);
-    }
-}
-
-fn print_judged(rt: &impl Print, label: &str, number: u8) -> io::Result<()> {
-    println!(rt; "{label}: {number}")
+    Ok(wires)
 }
 
 fn limit(
     rt: &impl Print,
-    cells: &mut Cells,
+    tester: &mut Tester,
     label: &str,
-    nodes: u64,
-    channels: u64,
-    total: u64,
+    nodes: usize,
+    channels: usize,
+    stations: usize,
 ) -> io::Result<()> {
-    let mut image = [0u8; 1024];
-    let length = chip::image_length(nodes, channels);
-    put_byte(&mut image, 0, nodes);
-    put_byte(&mut image, 1, channels);
-    limit_nodes(&mut image, nodes);
-    limit_channels(&mut image, nodes, channels, total);
-    judge_limit(rt, cells, label, &image, length)
+    let plan = Plan {
+        cores: limit_cores(tester.alloc, nodes)?,
+        wires: limit_wires(tester.alloc, channels, stations)?,
+    };
+    let image = plan.write(tester.alloc)?;
+    let number = tester.judge(&image)?;
+    println!(rt; "{label}: {number}")
 }
 
-fn judge_limit(
-    rt: &impl Print,
-    cells: &mut Cells,
-    label: &str,
-    image: &Bytes,
-    length: u64,
-) -> io::Result<()> {
-    let whole: &[u8] = image;
-    let end = (length % 1024) as usize;
-    if end <= whole.len() {
-        let number = compare::judge(rt, cells, &whole[0..end])?;
-        print_judged(rt, label, number)?;
-    }
-    Ok(())
+pub(crate) fn limits(rt: &impl Print, tester: &mut Tester) -> io::Result<()> {
+    limit(rt, tester, "64 nodes, 96 channels", 64, 96, 0)?;
+    limit(rt, tester, "65 nodes", 65, 96, 0)?;
+    limit(rt, tester, "97 channels", 64, 97, 0)?;
+    limit(rt, tester, "256 stations", 64, 96, 256)?;
+    limit(rt, tester, "257 stations", 64, 96, 257)
 }
 
-pub(crate) fn limits(rt: &impl Print, cells: &mut Cells) -> io::Result<()> {
-    limit(rt, cells, "64 nodes, 96 channels", 64, 96, 0)?;
-    limit(rt, cells, "65 nodes", 65, 96, 0)?;
-    limit(rt, cells, "97 channels", 64, 97, 0)?;
-    limit(rt, cells, "256 stations", 64, 96, 256)?;
-    limit(rt, cells, "257 stations", 64, 96, 257)
-}
+// ---- one station: tokens 1, 2, 3 and 4 come to it in cycles 0, 1, 2 and 7
 
-// ---- table 1: tokens 1, 2, 3 and 4 come to a station in cycles 0, 1, 2 and 7
-
-const COMING: [i32; 10] = [1, 2, 3, 0, 0, 0, 0, 4, 0, 0];
-
-const STOPS: [u8; 10] = [0, 0, 1, 1, 0, 0, 0, 1, 1, 0];
+// The token that comes, 0 if none does, and the stop below.
+const COMING: [(i32, bool); 10] = [
+    (1, false),
+    (2, false),
+    (3, true),
+    (0, true),
+    (0, false),
+    (0, false),
+    (0, false),
+    (4, true),
+    (0, true),
+    (0, false),
+];
 
 // One cycle of the station bench; the second simulator has a row of one.
 fn bench_cycle(
     rt: &impl Print,
-    cells: &mut Cells,
-    station: Station,
-    coming: i32,
-    stop: bool,
-) -> io::Result<Station> {
-    let valid = coming != 0;
-    picture::draw_station(cells, 0, station);
-    let number = rows::second_row(cells, 1, valid, bits(coming), stop);
-    let benched = bench::station_trial(station, valid, coming, stop);
-    let answer = benched.answer;
-    let after = benched.station;
-    let text = [b' ', answer.letter];
-    print(rt, &text)?;
-    rows::same_answer(rt, cells, answer, number)?;
-    picture::draw_station(cells, 0, after);
-    compare::same_state(rt, cells)?;
-    Ok(after)
+    tester: &mut Tester,
+    station: &mut Station,
+    coming: Coming,
+) -> io::Result<()> {
+    let mut records = rows::NO_RECORDS;
+    records[0] = *station;
+    let second = rows::bench(tester.alloc, &mut records, 1, coming)?;
+    let engine = library::bench_station(station, coming);
+    print_letter(rt, engine.letter)?;
+    rows::same_answer(&mut tester.report, engine, second)?;
+    tester.report.same_rows(&[*station], &records[..1]);
+    Ok(())
 }
 
-pub(crate) fn table1(rt: &impl Print, cells: &mut Cells) -> io::Result<()> {
+fn print_letter(rt: &impl Print, letter: u8) -> io::Result<()> {
+    let letter = char::from(letter);
+    print!(rt; " {letter}")
+}
+
+pub(crate) fn table1(rt: &impl Print, tester: &mut Tester) -> io::Result<()> {
     let mut station = Station::empty();
-    print(rt, b"table 1:")?;
-    for t in 0..10 {
-        let coming = COMING[t];
-        let stop = STOPS[t];
-        station = bench_cycle(rt, cells, station, coming, stop == 1)?;
+    print!(rt; "table 1:")?;
+    for (value, stop) in COMING {
+        let coming = Coming {
+            valid: value != 0,
+            value,
+            stop,
+        };
+        bench_cycle(rt, tester, &mut station, coming)?;
     }
-    print(rt, b"\n")
+    println!(rt;)
 }
 
-// ---- figure 4
+// ---- figure 4: two nodes that count, a sum, and two that hold it
 
-fn print_place(rt: &impl Print, letters: &[u8], values: &[i32], i: usize) -> io::Result<()> {
-    if i < letters.len() {
-        print(rt, b" ")?;
-        print(rt, &letters[i..i + 1])?;
-        if letters[i] == b'T' {
-            print_value(rt, values, i)?;
-        }
-        if letters[i] == b'R' {
-            print_value(rt, values, i)?;
-        }
-    }
-    Ok(())
-}
+const FIGURE4: &[u8; 47] =
+    b"\x05\x04\x01\x01\x06\x02\x02\x0a\0\0\0\x64\0\0\0\0\0\0\0\0\0\0\0\0\0\0\0\0\x02\0\x01\x02\x01\x02\x03\0\x02\x04\0\0\x02\0\x02\0\x01\0\x01";
 
-fn print_value(rt: &impl Print, values: &[i32], i: usize) -> io::Result<()> {
-    if i < values.len() {
-        print_signed(rt, values[i])?;
-    }
-    Ok(())
-}
+const WORDS: [u64; 11] = [1, 0, 0, 16, 0, 0, 3, 3, 8, 0, 0];
 
-fn print_cycle(rt: &impl Print, image: &[u8], state: State, word: u64, t: usize) -> io::Result<()> {
-    let mut letters = [b'.'; 4];
-    let mut values = [0i32; 4];
-    engine::step(image, state, word, &mut letters, &mut values);
+const ROOMS: Rooms = Rooms {
+    letters: 4,
+    values: 4,
+};
+
+fn print_cycle(rt: &impl Print, t: usize, stepped: &Stepped) -> io::Result<()> {
     print!(rt; "{t}")?;
-    print_place(rt, &letters, &values, 0)?;
-    print_place(rt, &letters, &values, 1)?;
-    print_place(rt, &letters, &values, 2)?;
-    print_place(rt, &letters, &values, 3)?;
-    print(rt, b"\n")
+    for (letter, value) in stepped.letters.iter().zip(stepped.values.iter()) {
+        print_letter(rt, *letter)?;
+        if *letter == b'T' || *letter == b'R' {
+            print!(rt; "{value}")?;
+        }
+    }
+    println!(rt;)
 }
 
-fn print_fired(rt: &impl Print, state: State) -> io::Result<()> {
-    print(rt, b"fired")?;
-    for n in 0..5 {
-        let node = state.nodes[n];
+fn print_fired(rt: &impl Print, state: &State) -> io::Result<()> {
+    print!(rt; "fired")?;
+    for node in state.nodes.iter().take(5) {
         let firings = node.firings;
         print!(rt; " {firings}")?;
     }
-    print(rt, b"\n")
+    println!(rt;)
 }
 
-fn figure4_cycle(
-    rt: &impl Print,
-    cells: &mut Cells,
-    image: &[u8],
-    state: State,
-    word: u8,
-    t: usize,
-) -> io::Result<State> {
-    let rooms = Rooms {
-        letters: 4,
-        values: 4,
+pub(crate) fn figure4(rt: &impl Print, tester: &mut Tester) -> io::Result<()> {
+    println!(rt; "figure 4")?;
+    let (mut state, chip) = tester.fresh(FIGURE4)?;
+    let Some(chip) = chip else {
+        return Ok(());
     };
-    print_cycle(rt, image, state, word as u64, t)?;
-    let after = compare::step(rt, cells, image, state, word as u64, rooms)?;
-    compare::arrivals(rt, cells)?;
-    Ok(after)
-}
-
-fn figure4_cycles(
-    rt: &impl Print,
-    cells: &mut Cells,
-    image: &[u8],
-    words: &[u8; 11],
-) -> io::Result<()> {
-    let mut state = compare::fresh(rt, cells, image)?;
-    second::strict(image, cells, 63);
-    let mut t: usize = 0;
-    while t < 11 {
-        let word = words[t];
-        state = figure4_cycle(rt, cells, image, state, word, t)?;
-        t += 1;
+    let mut streams = Streams::new(tester.alloc, &chip)?;
+    for (t, word) in WORDS.iter().enumerate() {
+        let (stepped, chip) = tester.step(FIGURE4, &state, *word, ROOMS)?;
+        print_cycle(rt, t, &stepped)?;
+        if let Some(chip) = chip {
+            streams.arrive(&mut tester.report, &chip);
+        }
+        state = stepped.answer.state;
     }
-    print_fired(rt, state)
-}
-
-pub(crate) fn figure4(rt: &impl Print, cells: &mut Cells) -> io::Result<()> {
-    let image =
-        b"\x05\x04\x01\x01\x06\x02\x02\x0a\0\0\0\x64\0\0\0\0\0\0\0\0\0\0\0\0\0\0\0\0\x02\0\x01\x02\x01\x02\x03\0\x02\x04\0\0\x02\0\x02\0\x01\0\x01";
-    let words = b"\x01\0\0\x10\0\0\x03\x03\x08\0\0";
-    print(rt, b"figure 4\n")?;
-    put(cells, compare::NETLISTS, 0, 0);
-    figure4_cycles(rt, cells, image, words)
+    print_fired(rt, &state)
 }

@@ -1,113 +1,102 @@
-// Compares the engine, the strict run and the judge with a second simulator. That one is written from
-// the scope paper, in another layout and another order of work: `chip` has its layout, `turn` its cycle,
-// `verdict` its numbers and `second` its calls. First the paper's edges that are not starred; then netlists
-// at random, a line a group. A group's netlists are counted from 0, and a difference says in which
-// one, and where, it was found.
+// Compares the engine, the strict run, the judge and the benches with a second simulator, which is
+// written apart from them, in another layout and another order of work. First the largest netlists and
+// two worked figures; then netlists at random, a line a group, and rows of stations. The first
+// difference of each is printed before its line.
+//
+// The second simulator: `plan`, `judge` and `fits` say what is accepted, `kind`, `channel`, `chip` and
+// `history` how it runs, `second` is its calls. The tests: `dice`, `draft`, `words` and `damage` make
+// what is tried, `trial`, `rows` and `figures` try it, `tester`, `mismatch`, `streams` and `report`
+// compare. `library` has all that is called of other crates.
 #![tactic(auto)]
 
-mod cells;
+mod channel;
 mod chip;
-mod compare;
 mod damage;
+mod dice;
 mod draft;
 mod figures;
-mod picture;
+mod fits;
+mod history;
+mod judge;
+mod kind;
+mod library;
+mod mismatch;
+mod places;
+mod plan;
+mod refusal;
+mod report;
 mod rows;
 mod second;
+mod streams;
+mod tester;
 mod trial;
-mod turn;
-mod verdict;
 mod words;
 
-use cells::{Cells, get};
+use draft::Shape;
 use std::io;
+use tester::Tester;
 
-// ---- printing
+const GROUPS: [(Shape, u64); 6] = [
+    (Shape::Rings, 100),
+    (Shape::Reconvergent, 100),
+    (Shape::SelfLoops, 80),
+    (Shape::FanOut, 80),
+    (Shape::Mixed, 120),
+    (Shape::Large, 40),
+];
 
-pub(crate) fn print_count(rt: &impl Print, count: u64, name: &str) -> io::Result<()> {
-    print!(rt; "{count}{name}")
+// The seed of the rows' dice: the groups have those below.
+const ROWS_SEED: u64 = 6;
+
+fn edges(rt: &impl Print, tester: &mut Tester) -> io::Result<()> {
+    figures::limits(rt, tester)?;
+    figures::table1(rt, tester)?;
+    figures::figure4(rt, tester)?;
+    tester.report.print_first(rt)?;
+    println!(rt; "edges: {} differences", tester.report.counts.differences)
 }
 
-// The counts of a group.
-fn print_group(rt: &impl Print, label: &str, cells: &Cells) -> io::Result<()> {
-    print!(rt; "{label}: ")?;
-    print_count(rt, get(cells, compare::NETLISTS, 0), " netlists, ")?;
-    print_count(rt, get(cells, compare::STEPS, 0), " steps, ")?;
-    print_count(rt, get(cells, compare::RUNS, 0), " runs, ")?;
-    print_count(rt, get(cells, compare::REFUSALS, 0), " refusals, ")?;
-    print_count(rt, get(cells, compare::STRICT, 0), " strict, ")?;
-    print_count(rt, get(cells, compare::DIFFERENCES, 0), " differences\n")
-}
-
-// A new group; how often each number was answered is counted over all groups.
-pub(crate) fn clear_counts(cells: &mut Cells) {
-    for i in 0..32 {
-        cells::put(cells, compare::NETLISTS, i, 0);
+// Netlists of one shape.
+fn group(rt: &impl Print, tester: &mut Tester, shape: Shape, netlists: u64) -> io::Result<()> {
+    tester.begin_group(shape.seed());
+    for _ in 0..netlists {
+        trial::at_random(tester, shape)?;
     }
+    tester.report.print_first(rt)?;
+    let label = shape.label();
+    let counts = tester.report.counts;
+    print!(rt;
+        "{label}: {} netlists, {} steps, ",
+        counts.netlists, counts.steps
+    )?;
+    print!(rt; "{} runs, {} refusals, ", counts.runs, counts.refusals)?;
+    println!(rt;
+        "{} strict, {} differences",
+        counts.strict, counts.differences
+    )
 }
 
-// One number and how often it was answered, if it was.
-fn print_times(rt: &impl Print, number: u64, times: u64) -> io::Result<()> {
-    if 0 < times {
-        print!(rt; " {number}x{times}")?;
-    }
-    Ok(())
-}
-
-fn print_numbers(rt: &impl Print, cells: &Cells) -> io::Result<()> {
-    print!(rt; "numbers:")?;
-    for number in 1..32 {
-        print_times(rt, number, get(cells, compare::NUMBERS, number))?;
-    }
-    println!(rt;)
-}
-
-// ---- tests
-
-// Netlists of one shape; the dice begin anew.
-fn group(
-    rt: &impl Print,
-    label: &str,
-    cells: &mut Cells,
-    shape: u64,
-    netlists: u64,
-) -> io::Result<()> {
-    let mut bytes = [0u8; 1024];
-    let mut words = [0u64; 60];
-    clear_counts(cells);
-    draft::seed(cells, shape);
-    for i in 0..netlists {
-        trial::at_random(rt, cells, &mut bytes, shape, &mut words)?;
-    }
-    print_group(rt, label, cells)
-}
-
-fn edges(rt: &impl Print, cells: &mut Cells) -> io::Result<()> {
-    figures::limits(rt, cells)?;
-    figures::table1(rt, cells)?;
-    figures::figure4(rt, cells)?;
-    print!(rt; "edges: ")?;
-    print_count(rt, get(cells, compare::DIFFERENCES, 0), " differences\n")
-}
-
-// The groups of netlists, and the rows of stations.
-fn small_groups(rt: &impl Print, cells: &mut Cells) -> io::Result<()> {
-    group(rt, "rings", cells, draft::RINGS, 100)?;
-    group(rt, "reconvergent paths", cells, draft::RECONVERGENT, 100)?;
-    group(rt, "self loops", cells, draft::SELF_LOOPS, 80)?;
-    group(rt, "fan-out", cells, draft::FAN_OUT, 80)
-}
-
-fn wide_groups(rt: &impl Print, cells: &mut Cells) -> io::Result<()> {
-    group(rt, "mixed", cells, draft::MIXED, 120)?;
-    group(rt, "large", cells, draft::LARGE, 40)?;
-    rows::group(rt, cells)
+fn rows_of_stations(rt: &impl Print, tester: &mut Tester) -> io::Result<()> {
+    tester.begin_group(ROWS_SEED);
+    rows::at_random(tester)?;
+    tester.report.print_first(rt)?;
+    let counts = tester.report.counts;
+    print!(rt;
+        "rows of stations: {} rows, {} steps, ",
+        counts.netlists, counts.steps
+    )?;
+    println!(rt;
+        "{} refusals, {} differences",
+        counts.refusals, counts.differences
+    )
 }
 
 fn main(rt: HostRuntime) -> io::Result<()> {
-    let mut cells = [0u64; 18176];
-    edges(&rt, &mut cells)?;
-    small_groups(&rt, &mut cells)?;
-    wide_groups(&rt, &mut cells)?;
-    print_numbers(&rt, &cells)
+    let mut tester = Tester::new(rt.alloc());
+    edges(&rt, &mut tester)?;
+    for (shape, netlists) in GROUPS {
+        group(&rt, &mut tester, shape, netlists)?;
+    }
+    rows_of_stations(&rt, &mut tester)?;
+    tester.report.print_numbers(&rt)
 }

@@ -1,113 +1,110 @@
 // Stall words: at random, and those that try hardest to upset an engine.
-use crate::cells::Cells;
-use crate::draft;
-use crate::draft::{roll, roll_word};
 
-// A trial's words: fewer than the 64 cycles of which strict values are kept.
-pub(crate) type List = [u64; 60];
+use crate::dice::Dice;
+use std::alloc::{AllocError, Global};
 
-const LENGTH: usize = 60;
+// How many words a trial has.
+pub(crate) const WORDS: usize = 60;
 
-// How many patterns there are.
-const PATTERNS: u64 = 8;
+const EVEN: u64 = 0x5555555555555555;
 
-const ALL: u64 = 18446744073709551615;
-
-const EVEN: u64 = 6148914691236517205;
-
-const ODD: u64 = 12297829382473034410;
+// Which nodes are stalled, cycle by cycle.
+#[derive(Clone, Copy)]
+pub(crate) enum Pattern {
+    // at random, a quarter of them
+    Few,
+    Nobody,
+    // all, ten cycles of twenty
+    Bursts,
+    // one node for 40 cycles
+    One(usize),
+    // the even and the odd ones by turns
+    ByTurns,
+    // all but one, another one every third cycle
+    AllButOne,
+    // at random, two cycles of six
+    Now,
+    // at random, half of them
+    Many,
+}
 
 // 2 to the i, and 0 from 64 on.
-pub(crate) fn power(i: u64) -> u64 {
-    let mut unit: u64 = 1;
-    let mut left = i;
-    while 0 < left {
-        left -= 1;
-        unit = unit % 9223372036854775808 * 2;
-    }
-    unit
+fn power(i: usize) -> u64 {
+    if i < 64 { 1 << i } else { 0 }
 }
 
-// The bits below bit n.
-fn below(word: u64, n: u64) -> u64 {
-    let limit = power(n);
-    if limit == 0 {
-        return word;
-    }
-    word % limit
+// The word of the first nodes.
+fn all(nodes: usize) -> u64 {
+    power(nodes).wrapping_sub(1)
 }
 
-fn remainder(number: u64, by: u64) -> u64 {
-    if by == 0 {
-        return 0;
-    }
-    number % by
-}
-
-// Nobody but one node is free, another one every third cycle.
-fn all_but_one(t: u64, nodes: u64) -> u64 {
-    let all = below(ALL, nodes);
-    let one = power(remainder(t / 3, nodes));
-    if one <= all {
-        return all - one;
-    }
-    all
-}
-
-fn while_early(word: u64, t: u64, span: u64, early: u64) -> u64 {
-    if remainder(t, span) < early {
-        return word;
-    }
-    0
-}
-
-fn by_turns(t: u64) -> u64 {
-    if t % 2 == 0 {
-        return EVEN;
-    }
-    ODD
-}
-
-// The word of cycle t: three patterns at random, no stalls, bursts in which all are stalled, one node
-// stalled for long, even and odd nodes by turns, only one node free.
-pub(crate) fn word(cells: &mut Cells, pattern: u64, t: u64, nodes: u64) -> u64 {
-    let one = roll_word(cells);
-    let other = roll_word(cells);
-    let face = pattern % PATTERNS;
-    match face {
-        0 => below(one & other, nodes),
-        1 => 0,
-        2 => while_early(below(ALL, nodes), t, 20, 10),
-        3 => while_early(power(remainder(pattern / 8, nodes)), t, 60, 40),
-        4 => below(by_turns(t), nodes),
-        5 => all_but_one(t, nodes),
-        6 => while_early(below(one, nodes), t, 6, 2),
-        _ => below(one, nodes),
+// The word in the first cycles of each span, and no stalls in the others.
+fn early(word: u64, t: usize, cycles: usize, span: usize) -> u64 {
+    if t.checked_rem(span).is_some_and(|i| i < cycles) {
+        word
+    } else {
+        0
     }
 }
 
-// A word with a bit at or above N, for N below 64.
-pub(crate) fn word_above(cells: &mut Cells, nodes: u64) -> u64 {
-    let i = crate::cells::plus(nodes, roll(cells, 64));
-    if i < 64 {
-        return power(i);
-    }
-    ALL
+fn by_turns(t: usize) -> u64 {
+    if t % 2 == 0 { EVEN } else { !EVEN }
 }
 
-pub(crate) fn put_word(words: &mut List, i: u64, word: u64) {
-    let at = (i % 60) as usize;
-    if at < LENGTH {
-        words[at] = word;
+// The word of one of the nodes.
+fn one_of(i: usize, nodes: usize) -> u64 {
+    power(i.checked_rem(nodes).unwrap_or(0))
+}
+
+impl Pattern {
+    // The pattern of a netlist, by its number in its group.
+    pub(crate) fn of(netlist: u64) -> Self {
+        match netlist % 8 {
+            0 => Pattern::Few,
+            1 => Pattern::Nobody,
+            2 => Pattern::Bursts,
+            3 => Pattern::One((netlist / 8) as usize),
+            4 => Pattern::ByTurns,
+            5 => Pattern::AllButOne,
+            6 => Pattern::Now,
+            _ => Pattern::Many,
+        }
+    }
+
+    // The word of cycle t. The dice are thrown for each.
+    fn word(self, dice: &mut Dice, t: usize, nodes: usize) -> u64 {
+        let one = dice.roll_word();
+        let other = dice.roll_word();
+        let word = match self {
+            Pattern::Few => one & other,
+            Pattern::Nobody => 0,
+            Pattern::Bursts => early(u64::MAX, t, 10, 20),
+            Pattern::One(i) => early(one_of(i, nodes), t, 40, 60),
+            Pattern::ByTurns => by_turns(t),
+            Pattern::AllButOne => !one_of(t / 3, nodes),
+            Pattern::Now => early(one, t, 2, 6),
+            Pattern::Many => one,
+        };
+        word & all(nodes)
+    }
+
+    // The words of a trial.
+    pub(crate) fn words(
+        self,
+        alloc: Global,
+        dice: &mut Dice,
+        nodes: usize,
+    ) -> Result<Vec<u64>, AllocError> {
+        let mut words = Vec::new(alloc);
+        for t in 0..WORDS {
+            words.push(self.word(dice, t, nodes))?;
+        }
+        Ok(words)
     }
 }
 
-// The words of a trial, for the netlist that was drafted last.
-pub(crate) fn fill(words: &mut List, cells: &mut Cells, pattern: u64) {
-    let nodes = crate::cells::get(cells, draft::NODES, 0);
-    let mut i: usize = 0;
-    while i < LENGTH {
-        words[i] = word(cells, pattern, i as u64, nodes);
-        i += 1;
-    }
+// A word with a bit that is no node's, for fewer than 64 nodes.
+pub(crate) fn word_above(dice: &mut Dice, nodes: usize) -> u64 {
+    let i = nodes.saturating_add(dice.roll(64));
+    if i < 64 { power(i) } else { u64::MAX }
 }

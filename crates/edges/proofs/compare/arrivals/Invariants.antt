@@ -1,9 +1,0 @@
--- `edges::compare::arrivals` is safe and ends. Assumes nothing.
-use Rattle.std.specs.Prelude.{◌≤◌}
-use Rattle.edges.proofs.compare.arrivals.Given as goal
-
-abbrev pub invariant-loop-left : goal.invariant-loop-left
-invariant-loop-left g l = l.left ≤ l.initial.left
-
-abbrev pub decreases-loop-left : goal.decreases-loop-left
-decreases-loop-left g l = l.left

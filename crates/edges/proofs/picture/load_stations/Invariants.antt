@@ -1,9 +1,0 @@
--- `edges::picture::load_stations` is safe and ends. Assumes nothing.
-use Rattle.std.specs.Prelude.{◌≤◌}
-use Rattle.edges.proofs.picture.load_stations.Given as goal
-
-abbrev pub invariant-loop-left : goal.invariant-loop-left
-invariant-loop-left l = l.left ≤ l.initial.left
-
-abbrev pub decreases-loop-left : goal.decreases-loop-left
-decreases-loop-left l = l.left

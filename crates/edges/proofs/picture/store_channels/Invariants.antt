@@ -1,9 +1,0 @@
--- `edges::picture::store_channels` is safe and ends. Assumes nothing.
-use Rattle.std.specs.Prelude.{◌≤◌}
-use Rattle.edges.proofs.picture.store_channels.Given as goal
-
-abbrev pub invariant-loop-left : goal.invariant-loop-left
-invariant-loop-left l = l.left ≤ l.initial.left
-
-abbrev pub decreases-loop-left : goal.decreases-loop-left
-decreases-loop-left l = l.left

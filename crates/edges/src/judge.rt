@@ -1,0 +1,104 @@
+// The second simulator's judge: it looks for every cause there is, in any order, and answers the least
+// of their numbers.
+
+use crate::kind::Kind;
+use crate::places::change;
+use crate::plan::{Plan, Wire};
+use crate::refusal::{Failure, Refusal};
+use std::alloc::Global;
+
+const MOST_STATIONS: u32 = 256;
+
+// The least of the refusals that have a cause so far.
+#[derive(Clone, Copy)]
+struct Causes {
+    least: Option<Refusal>,
+}
+
+impl Causes {
+    fn note(&mut self, cause: bool, refusal: Refusal) {
+        if cause && self.least.is_none_or(|least| refusal < least) {
+            self.least = Some(refusal);
+        }
+    }
+}
+
+// How often each port of each node is fed.
+#[derive(Clone, Copy)]
+struct Feeders {
+    ports: [[u8; 3]; 64],
+}
+
+impl Feeders {
+    fn of(plan: &Plan) -> Self {
+        let mut ports = [[0u8; 3]; 64];
+        for wire in plan.wires.iter() {
+            change(&mut ports, usize::from(wire.to), |node| {
+                change(node, usize::from(wire.port), |times| {
+                    *times = times.saturating_add(1);
+                });
+            });
+        }
+        Feeders { ports }
+    }
+}
+
+impl Plan {
+    fn inputs_of(&self, node: u8) -> usize {
+        self.cores
+            .get(usize::from(node))
+            .map_or(0, |core| core.inputs())
+    }
+
+    fn has(&self, node: u8) -> bool {
+        usize::from(node) < self.cores.len()
+    }
+
+    fn judge_wire(&self, causes: &mut Causes, wire: Wire) {
+        let missing = !self.has(wire.from) || !self.has(wire.to);
+        causes.note(missing, Refusal::Wire);
+        causes.note(
+            self.inputs_of(wire.to) <= usize::from(wire.port),
+            Refusal::Port,
+        );
+        causes.note(8 < wire.stations, Refusal::Stations);
+        causes.note(wire.depth < 1 || 8 < wire.depth, Refusal::Depth);
+    }
+
+    fn judge_wires(&self, causes: &mut Causes) {
+        let mut stations: u32 = 0;
+        for wire in self.wires.iter() {
+            self.judge_wire(causes, *wire);
+            stations = stations.saturating_add(u32::from(wire.stations));
+        }
+        causes.note(MOST_STATIONS < stations, Refusal::StationsInAll);
+    }
+
+    fn judge_cores(&self, causes: &mut Causes) {
+        let feeders = Feeders::of(self);
+        for (core, ports) in self.cores.iter().zip(feeders.ports.iter()) {
+            causes.note(Kind::try_from(core.kind).is_err(), Refusal::Kind);
+            for times in ports.iter().take(core.inputs()) {
+                causes.note(1 < *times, Refusal::FedTwice);
+                causes.note(*times < 1, Refusal::NotFed);
+            }
+        }
+    }
+
+    fn judge(&self) -> Result<(), Refusal> {
+        let mut causes = Causes { least: None };
+        self.judge_wires(&mut causes);
+        self.judge_cores(&mut causes);
+        match causes.least {
+            None => Ok(()),
+            Some(refusal) => Err(refusal),
+        }
+    }
+
+    // The netlist of an image that is accepted.
+    pub(crate) fn accepted(alloc: Global, image: &[u8]) -> Result<Plan, Failure> {
+        let plan = Plan::read(alloc, image)?;
+        plan.judge()?;
+        Ok(plan)
+    }
+}

@@ -1,0 +1,113 @@
+// A netlist: its nodes and channels, read from the bytes of an image and written to them.
+
+use crate::kind::Kind;
+use crate::refusal::{Failure, Refusal};
+use std::alloc::{AllocError, Global};
+
+// What an image says of a node.
+#[derive(Clone, Copy)]
+pub(crate) struct Core {
+    pub kind: u8,
+    pub parameter: i32,
+}
+
+// What an image says of a channel: the nodes at its ends, the port that it leads to, how many stations
+// stand on it, and the depth of the queue at its end.
+#[derive(Clone, Copy)]
+pub(crate) struct Wire {
+    pub from: u8,
+    pub to: u8,
+    pub port: u8,
+    pub stations: u8,
+    pub depth: u8,
+}
+
+#[derive(Drop)]
+pub(crate) struct Plan {
+    pub cores: Vec<Core>,
+    pub wires: Vec<Wire>,
+}
+
+fn read_cores(alloc: Global, kinds: &[u8], parameters: &[u8]) -> Result<Vec<Core>, AllocError> {
+    let (parameters, _) = parameters.as_chunks::<4>();
+    let mut cores = Vec::new(alloc);
+    for (kind, parameter) in kinds.iter().zip(parameters.iter()) {
+        cores.push(Core {
+            kind: *kind,
+            parameter: i32::from_le_bytes(*parameter),
+        })?;
+    }
+    Ok(cores)
+}
+
+fn read_wires(alloc: Global, wires: &[u8], depths: &[u8]) -> Result<Vec<Wire>, AllocError> {
+    let (ends, _) = wires.as_chunks::<3>();
+    let (depths, _) = depths.as_chunks::<2>();
+    let mut wires = Vec::new(alloc);
+    for ([from, to, port], [stations, depth]) in ends.iter().zip(depths.iter()) {
+        wires.push(Wire {
+            from: *from,
+            to: *to,
+            port: *port,
+            stations: *stations,
+            depth: *depth,
+        })?;
+    }
+    Ok(wires)
+}
+
+// The last eight bits of a number.
+pub(crate) fn byte(number: usize) -> u8 {
+    (number % 256) as u8
+}
+
+impl Core {
+    // How many inputs the node has; none, if its kind is no kind.
+    pub(crate) fn inputs(self) -> usize {
+        Kind::try_from(self.kind).map_or(0, |kind| kind.inputs())
+    }
+}
+
+impl Plan {
+    // An image of the right length. Its contents may be wrong.
+    pub(crate) fn read(alloc: Global, image: &[u8]) -> Result<Plan, Failure> {
+        let [nodes, channels, rest @ ..] = image else {
+            return Err(Failure::Refused(Refusal::ShortImage));
+        };
+        let n = usize::from(*nodes);
+        let c = usize::from(*channels);
+        if n < 1 || 64 < n || 96 < c {
+            return Err(Failure::Refused(Refusal::Sizes));
+        }
+        if rest.len() != 5 * n + 5 * c {
+            return Err(Failure::Refused(Refusal::Length));
+        }
+        let (kinds, rest) = rest.split_at(n);
+        let (parameters, rest) = rest.split_at(4 * n);
+        let (wires, depths) = rest.split_at(3 * c);
+        Ok(Plan {
+            cores: read_cores(alloc, kinds, parameters)?,
+            wires: read_wires(alloc, wires, depths)?,
+        })
+    }
+
+    // The image. A plan that an image has no room for is cut off.
+    pub(crate) fn write(&self, alloc: Global) -> Result<Vec<u8>, AllocError> {
+        let mut image = Vec::new(alloc);
+        image.push(byte(self.cores.len()))?;
+        image.push(byte(self.wires.len()))?;
+        for core in self.cores.iter() {
+            image.push(core.kind)?;
+        }
+        for core in self.cores.iter() {
+            image.extend_from_slice(&core.parameter.to_le_bytes())?;
+        }
+        for wire in self.wires.iter() {
+            image.extend_from_slice(&[wire.from, wire.to, wire.port])?;
+        }
+        for wire in self.wires.iter() {
+            image.extend_from_slice(&[wire.stations, wire.depth])?;
+        }
+        Ok(image)
+    }
+}
