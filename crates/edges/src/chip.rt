@@ -1,13 +1,13 @@
 // The second simulator's netlist and state, and its cycle. It goes from the last channel to the first,
 // and on a channel from the queue back to the from node, so that every token is handed on in place.
 
+use crate::cause::{Cause, Failure};
 use crate::channel::Channel;
 use crate::kind::Kind;
 use crate::library;
 use crate::library::{Held, Queue, State, Station};
 use crate::places::{change, set};
 use crate::plan::{Core, Plan, Wire};
-use crate::refusal::{Failure, Refusal};
 use std::alloc::{AllocError, Global};
 
 // The last cycle.
@@ -32,7 +32,7 @@ pub(crate) struct Chip {
 }
 
 impl Node {
-    fn new(core: Core, shown: library::Node) -> Result<Self, Refusal> {
+    fn new(core: Core, shown: library::Node) -> Result<Self, Cause> {
         Ok(Node {
             kind: Kind::try_from(core.kind)?,
             value: shown.value,
@@ -154,9 +154,9 @@ impl Chip {
 impl Chip {
     // Splits a word into its bits, from bit 0 on: a node may fire if its own is clear. Refused in the
     // last cycle, and if a bit is set that is no node's.
-    pub(crate) fn stall(&mut self, word: u64) -> Result<(), Refusal> {
+    pub(crate) fn stall(&mut self, word: u64) -> Result<(), Cause> {
         if LAST <= self.cycles {
-            return Err(Refusal::LastCycle);
+            return Err(Cause::LastCycle);
         }
         let mut rest = word;
         for node in self.nodes.iter_mut() {
@@ -164,7 +164,7 @@ impl Chip {
             rest /= 2;
         }
         if rest != 0 {
-            return Err(Refusal::Word);
+            return Err(Cause::Word);
         }
         Ok(())
     }

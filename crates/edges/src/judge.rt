@@ -1,10 +1,10 @@
 // The second simulator's judge: it looks for every cause there is, in any order, and answers the least
 // of their numbers.
 
+use crate::cause::{Cause, Failure};
 use crate::kind::Kind;
 use crate::places::change;
 use crate::plan::{Plan, Wire};
-use crate::refusal::{Failure, Refusal};
 use std::alloc::Global;
 
 const MOST_STATIONS: u32 = 256;
@@ -12,11 +12,11 @@ const MOST_STATIONS: u32 = 256;
 // The least of the refusals that have a cause so far.
 #[derive(Clone, Copy)]
 struct Causes {
-    least: Option<Refusal>,
+    least: Option<Cause>,
 }
 
 impl Causes {
-    fn note(&mut self, cause: bool, refusal: Refusal) {
+    fn note(&mut self, cause: bool, refusal: Cause) {
         if cause && self.least.is_none_or(|least| refusal < least) {
             self.least = Some(refusal);
         }
@@ -56,13 +56,13 @@ impl Plan {
 
     fn judge_wire(&self, causes: &mut Causes, wire: Wire) {
         let missing = !self.has(wire.from) || !self.has(wire.to);
-        causes.note(missing, Refusal::Wire);
+        causes.note(missing, Cause::Wire);
         causes.note(
             self.inputs_of(wire.to) <= usize::from(wire.port),
-            Refusal::Port,
+            Cause::Port,
         );
-        causes.note(8 < wire.stations, Refusal::Stations);
-        causes.note(wire.depth < 1 || 8 < wire.depth, Refusal::Depth);
+        causes.note(8 < wire.stations, Cause::Stations);
+        causes.note(wire.depth < 1 || 8 < wire.depth, Cause::Depth);
     }
 
     fn judge_wires(&self, causes: &mut Causes) {
@@ -71,21 +71,21 @@ impl Plan {
             self.judge_wire(causes, *wire);
             stations = stations.saturating_add(u32::from(wire.stations));
         }
-        causes.note(MOST_STATIONS < stations, Refusal::StationsInAll);
+        causes.note(MOST_STATIONS < stations, Cause::StationsInAll);
     }
 
     fn judge_cores(&self, causes: &mut Causes) {
         let feeders = Feeders::of(self);
         for (core, ports) in self.cores.iter().zip(feeders.ports.iter()) {
-            causes.note(Kind::try_from(core.kind).is_err(), Refusal::Kind);
+            causes.note(Kind::try_from(core.kind).is_err(), Cause::Kind);
             for times in ports.iter().take(core.inputs()) {
-                causes.note(1 < *times, Refusal::FedTwice);
-                causes.note(*times < 1, Refusal::NotFed);
+                causes.note(1 < *times, Cause::FedTwice);
+                causes.note(*times < 1, Cause::NotFed);
             }
         }
     }
 
-    fn judge(&self) -> Result<(), Refusal> {
+    fn judge(&self) -> Result<(), Cause> {
         let mut causes = Causes { least: None };
         self.judge_wires(&mut causes);
         self.judge_cores(&mut causes);

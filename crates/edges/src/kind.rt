@@ -1,6 +1,6 @@
 // The kinds of nodes, and what each makes of its value and its inputs.
 
-use crate::refusal::Refusal;
+use crate::cause::Cause;
 
 #[derive(Clone, Copy, PartialEq, Eq)]
 pub(crate) enum Kind {
@@ -16,9 +16,9 @@ pub(crate) enum Kind {
 }
 
 impl TryFrom<u8> for Kind {
-    type Error = Refusal;
+    type Error = Cause;
 
-    fn try_from(byte: u8) -> Result<Self, Refusal> {
+    fn try_from(byte: u8) -> Result<Self, Cause> {
         match byte {
             1 => Ok(Kind::Count),
             2 => Ok(Kind::Hold),
@@ -29,7 +29,7 @@ impl TryFrom<u8> for Kind {
             7 => Ok(Kind::Difference),
             8 => Ok(Kind::Larger),
             9 => Ok(Kind::Choose),
-            _ => Err(Refusal::Kind),
+            _ => Err(Cause::Kind),
         }
     }
 }

@@ -2,11 +2,11 @@
 // brought into the forms of this program here.
 
 use crate::places::set;
-use ::refusal::Refusal;
+use refusal::Refusal;
 pub(crate) use relay::Station;
 pub(crate) use shell::Queue;
-pub(crate) use state::{Node, State};
 use state::Refused;
+pub(crate) use state::{Node, State};
 use std::alloc::{AllocError, Global};
 
 // What stands in a lent array before a call.

@@ -9,6 +9,7 @@
 // compare. `library` has all that is called of other crates.
 #![tactic(auto)]
 
+mod cause;
 mod channel;
 mod chip;
 mod damage;
@@ -23,7 +24,6 @@ mod library;
 mod mismatch;
 mod places;
 mod plan;
-mod refusal;
 mod report;
 mod rows;
 mod second;

@@ -1,7 +1,7 @@
 // A netlist: its nodes and channels, read from the bytes of an image and written to them.
 
+use crate::cause::{Cause, Failure};
 use crate::kind::Kind;
-use crate::refusal::{Failure, Refusal};
 use std::alloc::{AllocError, Global};
 
 // What an image says of a node.
@@ -72,15 +72,15 @@ impl Plan {
     // An image of the right length. Its contents may be wrong.
     pub(crate) fn read(alloc: Global, image: &[u8]) -> Result<Plan, Failure> {
         let [nodes, channels, rest @ ..] = image else {
-            return Err(Failure::Refused(Refusal::ShortImage));
+            return Err(Failure::Refused(Cause::ShortImage));
         };
         let n = usize::from(*nodes);
         let c = usize::from(*channels);
         if n < 1 || 64 < n || 96 < c {
-            return Err(Failure::Refused(Refusal::Sizes));
+            return Err(Failure::Refused(Cause::Sizes));
         }
         if rest.len() != 5 * n + 5 * c {
-            return Err(Failure::Refused(Refusal::Length));
+            return Err(Failure::Refused(Cause::Length));
         }
         let (kinds, rest) = rest.split_at(n);
         let (parameters, rest) = rest.split_at(4 * n);

@@ -2,6 +2,7 @@
 // token, and some rows are too short or too long. The second simulator's row is a channel, with the
 // incoming token pending, and the leaving one passed to its queue.
 
+use crate::cause::{Cause, Failure, answered};
 use crate::channel::{Channel, Reading};
 use crate::damage::roll_value;
 use crate::dice::Dice;
@@ -10,7 +11,6 @@ use crate::library;
 use crate::library::{Benched, Coming, Held, Queue, Records, Station};
 use crate::mismatch::Field;
 use crate::plan::{Wire, byte};
-use crate::refusal::{Failure, Refusal, answered};
 use crate::report::{Call, Report};
 use crate::tester::Tester;
 use std::alloc::{AllocError, Global};
@@ -88,10 +88,10 @@ fn channel(alloc: Global, row: &[Station], coming: Coming) -> Result<Channel, Al
 // A cycle of a row, which is changed.
 fn cycle(alloc: Global, row: &mut [Station], coming: Coming) -> Result<Benched, Failure> {
     if row.is_empty() || 8 < row.len() {
-        return Err(Failure::Refused(Refusal::RowLength));
+        return Err(Failure::Refused(Cause::RowLength));
     }
     if row_held(row, row.len()).is_none() {
-        return Err(Failure::Refused(Refusal::Misfit));
+        return Err(Failure::Refused(Cause::Misfit));
     }
     let mut channel = channel(alloc, row, coming)?;
     let leaving = Reading::new(channel.arriving(), coming.stop);

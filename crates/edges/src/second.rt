@@ -1,12 +1,12 @@
 // The second simulator's calls: a fresh state, a step, a run and a strict run. Each looks for its numbers
 // in their order.
 
+use crate::cause::{Cause, Failure};
 use crate::chip::{Chip, LAST};
 use crate::fits::fits;
 use crate::history::History;
 use crate::library::State;
 use crate::plan::Plan;
-use crate::refusal::{Failure, Refusal};
 use std::alloc::Global;
 
 pub(crate) fn judge(alloc: Global, image: &[u8]) -> Result<(), Failure> {
@@ -22,7 +22,7 @@ pub(crate) fn fresh(alloc: Global, image: &[u8]) -> Result<Chip, Failure> {
 fn load(alloc: Global, image: &[u8], state: &State) -> Result<Chip, Failure> {
     let plan = Plan::accepted(alloc, image)?;
     if !fits(&plan, state) {
-        return Err(Failure::Refused(Refusal::Misfit));
+        return Err(Failure::Refused(Cause::Misfit));
     }
     Chip::load(alloc, &plan, state)
 }
@@ -38,7 +38,7 @@ pub(crate) fn step(
     let mut chip = load(alloc, image, state)?;
     chip.stall(word)?;
     if room < chip.channels.len() {
-        return Err(Failure::Refused(Refusal::Room));
+        return Err(Failure::Refused(Cause::Room));
     }
     chip.cycle()?;
     Ok(chip)
@@ -49,7 +49,7 @@ pub(crate) fn step(
 pub(crate) struct RunDone {
     pub chip: Chip,
     pub steps: u32,
-    pub ended: Result<(), Refusal>,
+    pub ended: Result<(), Cause>,
 }
 
 pub(crate) fn run(
@@ -81,10 +81,10 @@ pub(crate) fn strict(
 ) -> Result<History, Failure> {
     let chip = fresh(alloc, image)?;
     if LAST < cycle {
-        return Err(Failure::Refused(Refusal::StrictCycle));
+        return Err(Failure::Refused(Cause::StrictCycle));
     }
     if room < chip.nodes.len() {
-        return Err(Failure::Refused(Refusal::Room));
+        return Err(Failure::Refused(Cause::Room));
     }
     Ok(History::new(alloc, &chip, cycle)?)
 }

@@ -1,13 +1,13 @@
 // Each call made twice, by the crates under test and by the second simulator, and all that came of it
 // compared.
 
+use crate::cause::{answered, number_of};
 use crate::channel::Reading;
 use crate::chip::Chip;
 use crate::dice::Dice;
 use crate::history::History;
 use crate::library::{Rooms, State, Stepped, UNTOUCHED};
 use crate::mismatch::Field;
-use crate::refusal::{answered, number_of};
 use crate::report::{Call, Report};
 use crate::{library, second};
 use std::alloc::{AllocError, Global};

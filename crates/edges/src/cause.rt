@@ -4,7 +4,7 @@ use std::alloc::{AllocError, AllocFailed};
 
 // The causes, each with its number. Where several are there, the least is answered.
 #[derive(Clone, Copy, PartialEq, Eq, PartialOrd, Ord)]
-pub(crate) enum Refusal {
+pub(crate) enum Cause {
     ShortImage = 1,
     Sizes = 2,
     Length = 3,
@@ -24,7 +24,7 @@ pub(crate) enum Refusal {
     LastCycle = 22,
 }
 
-impl Refusal {
+impl Cause {
     pub(crate) fn number(self) -> u8 {
         self as u8
     }
@@ -32,12 +32,12 @@ impl Refusal {
 
 #[derive(Clone, Copy)]
 pub(crate) enum Failure {
-    Refused(Refusal),
+    Refused(Cause),
     OutOfMemory(AllocError),
 }
 
-impl From<Refusal> for Failure {
-    fn from(refusal: Refusal) -> Self {
+impl From<Cause> for Failure {
+    fn from(refusal: Cause) -> Self {
         Failure::Refused(refusal)
     }
 }
@@ -55,7 +55,7 @@ impl<T: Drop> From<AllocFailed<T>> for Failure {
 }
 
 // What a call answered, apart from running out of memory.
-pub(crate) fn answered<T>(outcome: Result<T, Failure>) -> Result<Result<T, Refusal>, AllocError> {
+pub(crate) fn answered<T>(outcome: Result<T, Failure>) -> Result<Result<T, Cause>, AllocError> {
     match outcome {
         Ok(value) => Ok(Ok(value)),
         Err(Failure::Refused(refusal)) => Ok(Err(refusal)),
@@ -64,7 +64,7 @@ pub(crate) fn answered<T>(outcome: Result<T, Failure>) -> Result<Result<T, Refus
 }
 
 // The number of an answer, 0 if it is no refusal.
-pub(crate) fn number_of<T>(answer: &Result<T, Refusal>) -> u8 {
+pub(crate) fn number_of<T>(answer: &Result<T, Cause>) -> u8 {
     match answer {
         Ok(_) => 0,
         Err(refusal) => refusal.number(),
