@@ -6,24 +6,23 @@ use Rattle.laws.specs.Choice.{◌if◌else◌}
 use Rattle.laws.specs.Lists.{holds, padded}
 use Rattle.laws.specs.Table.{table, table_over}
 use Rattle.netlist.specs.Image.{kind, from, to}
+use Rattle.netlist.specs.declared.Channel.{Channel as Wire}
 use Rattle.netlist.specs.Readers.{channel_at}
 use Rattle.netlist.specs.Ports.{ports_below}
 use Rattle.relay.specs.declared.Station.{Station}
 use Rattle.relay.specs.Station.{station_of}
 use Rattle.shell.specs.declared.Queue.{Queue}
 use Rattle.shell.specs.Queue.{queue_of}
-use Rattle.cycle.specs.declared.Wires.{Wires}
-use Rattle.cycle.specs.declared.Kinds.{Kinds}
 use Rattle.state.specs.declared.Node.{Node}
 use Rattle.state.specs.declared.State.{State}
 use Rattle.cycle.specs.Cycle.{input_at, blocked_at, fires, node_after, channel_next}
 
 -- what is decoded of the channels below c and of the nodes below n; places that none has are 0
-unfoldable pub wires_below : List ℕ → ℕ → Wires
-wires_below img c = record { at = padded 96 (record { from = 0; to = 0; port = 0; stations = 0; depth = 0 }) (table (channel_at img) c) }
+unfoldable pub wires_below : List ℕ → ℕ → List Wire
+wires_below img c = padded 96 (record { from = 0; to = 0; port = 0; stations = 0; depth = 0 }) (table (channel_at img) c)
 
-unfoldable pub kinds_below : List ℕ → ℕ → Kinds
-kinds_below img n = record { at = padded 64 0 (table (kind img) n) }
+unfoldable pub kinds_below : List ℕ → ℕ → List ℕ
+kinds_below img n = padded 64 0 (table (kind img) n)
 
 module _ (img : List ℕ) (s : State) where
   -- data validation: the nodes that an input of the channels below c is not ready for, and the values that are brought to the ports

@@ -36,8 +36,6 @@ use Rattle.shell.specs.Queue.{waiting, queue_of, full, queue_after}
 use Rattle.shell.specs.QueueLaws.{after_of}
 use Rattle.shell.specs.Channel.{blocked, pending_after, arriving, input, stop_below, stop_above, channel_after}
 use Rattle.shell.specs.ChannelLaws.{arrived_few}
-use Rattle.cycle.specs.declared.Wires.{Wires}
-use Rattle.cycle.specs.declared.Kinds.{Kinds}
 use Rattle.state.specs.declared.State.{State}
 use Rattle.state.specs.State.{no_node, node_at, value_at, mark_at, station_at, queue_at, channel_in, state_of}
 use Rattle.state.specs.StateLaws.{place_channel, place_station, length-row, row_at, row_past, arriving_few}
@@ -222,20 +220,20 @@ cycle_done img w s fit =
 
 -- ---- what is decoded
 pub wires_turn :
-    (img : List ℕ) (c : ℕ) → c < 96 → (wires : Wires) → wires ≡ wires_below img c → (channel : Wire) → channel ≡ channel_at img c
-    → record { at = set wires.at c channel } ≡ wires_below img (suc c)
+    (img : List ℕ) (c : ℕ) → c < 96 → (wires : List Wire) → wires ≡ wires_below img c → (channel : Wire) → channel ≡ channel_at img c
+    → set wires c channel ≡ wires_below img (suc c)
 unfolding wires_below
 wires_turn img c h wires e channel f = rw (e, f, padded-table (channel_at img) c 96 _ h)
 
 pub kinds_turn :
-    (img : List ℕ) (n : ℕ) → n < 64 → (kinds : Kinds) → kinds ≡ kinds_below img n → (k : ℕ) → k ≡ kind img n
-    → record { at = set kinds.at n k } ≡ kinds_below img (suc n)
+    (img : List ℕ) (n : ℕ) → n < 64 → (kinds : List ℕ) → kinds ≡ kinds_below img n → (k : ℕ) → k ≡ kind img n
+    → set kinds n k ≡ kinds_below img (suc n)
 unfolding kinds_below
 kinds_turn img n h kinds e k f = rw (e, f, padded-table (kind img) n 64 0 h)
 
 pub wire-read :
-    (img : List ℕ) (c : ℕ) → c < channels img → (wires : Wires) → wires ≡ wires_below img (channels img)
-    → get_or wires.at c (record { from = 0; to = 0; port = 0; stations = 0; depth = 0 }) ≡ channel_at img c
+    (img : List ℕ) (c : ℕ) → c < channels img → (wires : List Wire) → wires ≡ wires_below img (channels img)
+    → get_or wires c (record { from = 0; to = 0; port = 0; stations = 0; depth = 0 }) ≡ channel_at img c
 unfolding wires_below
 wire-read img c h wires e = rw e (padded-at (channel_at img) (channels img) 96 c _ _ h)
 
@@ -249,6 +247,6 @@ wire-within img a c h wire e =
     rw e (omega (arith, a.wires c h, a.few_nodes), w.node c h, w.input c h, a.rows c h)
 
 pub kind-read :
-    (img : List ℕ) (n : ℕ) → n < nodes img → (kinds : Kinds) → kinds ≡ kinds_below img (nodes img) → get_or kinds.at n 0 ≡ kind img n
+    (img : List ℕ) (n : ℕ) → n < nodes img → (kinds : List ℕ) → kinds ≡ kinds_below img (nodes img) → get_or kinds n 0 ≡ kind img n
 unfolding kinds_below
 kind-read img n h kinds e = rw e (padded-at (kind img) (nodes img) 64 n 0 0 h)

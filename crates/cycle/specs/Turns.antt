@@ -30,7 +30,6 @@ use Rattle.shell.specs.declared.Queue.{Queue}
 use Rattle.shell.specs.Queue.{waiting, full, queue_after}
 use Rattle.shell.specs.QueueLaws.{after_idle}
 use Rattle.shell.specs.Channel.{blocked, pending_after, arriving, stop_below, seen}
-use Rattle.cycle.specs.declared.Kinds.{Kinds}
 use Rattle.state.specs.declared.Node.{Node}
 use Rattle.state.specs.declared.State.{State}
 use Rattle.state.specs.State.{no_node, no_queue, node_at, mark_at, station_at, queue_at, channel_in}
@@ -251,11 +250,11 @@ module _ (img : List ℕ) (a : Accepted img) (s : State) (fit : Fitting img s) (
 
   -- it fires
   pub fired-read :
-      fires img w s n ≡ true → (kinds : Kinds) → kinds ≡ kinds_below img (nodes img) → (brought : List ℤ) → brought ≡ brought_below img s (channels img)
+      fires img w s n ≡ true → (kinds : List ℕ) → kinds ≡ kinds_below img (nodes img) → (brought : List ℤ) → brought ≡ brought_below img s (channels img)
       → (x y z : ℤ) → x ≡ get_or brought (3 * n) (pos 0) → y ≡ get_or brought (3 * n + 1) (pos 0) → z ≡ get_or brought (3 * n + 2) (pos 0)
       → ◌≡◌ {A = Node}
       (record {
-        value = next_value (get_or kinds.at n 0) (get_or s.nodes n no_node).value x y z;
+        value = next_value (get_or kinds n 0) (get_or s.nodes n no_node).value x y z;
         firings = suc (get_or s.nodes n no_node).firings;
       })
       (node_after img w s n)

@@ -37,19 +37,8 @@ fn fired(node: Node, kind: u8, a: i32, b: i32, c: i32) -> Node
     }
 }
 
-// What is decoded of the channels, and of the nodes.
-#[derive(Clone, Copy)]
-struct Wires {
-    at: [Channel; 96],
-}
-
-#[derive(Clone, Copy)]
-struct Kinds {
-    at: [u8; 64],
-}
-
 // The fields of all channels.
-fn wires_of(image: &[u8]) -> Wires
+fn wires_of(image: &[u8]) -> [Channel; 96]
     requires { channels image.now ≤ 96 }
     ensures { result ≡ wires_below image.now (channels image.now) }
 {
@@ -61,22 +50,22 @@ fn wires_of(image: &[u8]) -> Wires
         stations: 0,
         depth: 0,
     };
-    let mut wires = Wires { at: [none; 96] };
+    let mut wires = [none; 96];
     for c in 0..channels {
-        wires.at[c as usize] = netlist::channel_at(image, c);
+        wires[c as usize] = netlist::channel_at(image, c);
     }
     wires
 }
 
 // The kinds of all nodes.
-fn kinds_of(image: &[u8]) -> Kinds
+fn kinds_of(image: &[u8]) -> [u8; 64]
     requires { nodes image.now ≤ 64 }
     ensures { result ≡ kinds_below image.now (nodes image.now) }
 {
     let nodes = netlist::nodes(image);
-    let mut kinds = Kinds { at: [0; 64] };
+    let mut kinds = [0; 64];
     for n in 0..nodes {
-        kinds.at[n as usize] = netlist::core_at(image, n).kind;
+        kinds[n as usize] = netlist::core_at(image, n).kind;
     }
     kinds
 }
@@ -103,7 +92,7 @@ pub fn cycles(image: &[u8], state: State, words: &[u64]) -> State
         let mut brought = [0; 192];
         let mut blocked = [false; 64];
         for c in 0..channels {
-            let channel = wires.at[c];
+            let channel = wires[c];
             let from = channel.from as usize;
             let to = channel.to as usize;
             let length = channel.stations as usize;
@@ -130,7 +119,7 @@ pub fn cycles(image: &[u8], state: State, words: &[u64]) -> State
                 let node = old.nodes[n];
                 s.nodes[n] = fired(
                     node,
-                    kinds.at[n],
+                    kinds[n],
                     brought[3 * n],
                     brought[3 * n + 1],
                     brought[3 * n + 2],
@@ -140,7 +129,7 @@ pub fn cycles(image: &[u8], state: State, words: &[u64]) -> State
         }
         // What passes moves on.
         for c in 0..channels {
-            let channel = wires.at[c];
+            let channel = wires[c];
             let from = channel.from as usize;
             let to = channel.to as usize;
             let length = channel.stations as usize;

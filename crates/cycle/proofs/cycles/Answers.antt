@@ -39,19 +39,18 @@ use Rattle.cycle.specs.Turns.{source_read, arriving-read, stop_read, full-read, 
 use Rattle.cycle.specs.Turns.{station-read, row_turn, link_read, last_read, ends_read, mark_read, queue_read, queue_idle, channel_turn}
 use Rattle.cycle.specs.Turns.{fires-read, fired-read, gated_turn, cycle_turn, after_next}
 use Rattle.cycle.specs.KeptLaws.{fitting-next}
-use Rattle.cycle.specs.declared.Wires.{Wires}
 use Rattle.cycle.specs.Parts.{wires_below}
 use Rattle.cycle.proofs.cycles.Goals.{In-loop-c, In-loop-c-2, then-length-gt0, else-length-gt0, then-stalls-starved, else-stalls-starved, then-j-length, else-j-length, then-length-gt0-2, else-length-gt0-2, then-takes-is_some, else-takes-is_some}
 use Rattle.cycle.proofs.cycles.Goals as goal
 
 -- what is read of channel i, which is one of the image's: its number and its fields are indices
-abbrev read_at : Wires → ℕ → Wire
-read_at wires i = get_or wires.at i (record { from = 0; to = 0; port = 0; stations = 0; depth = 0 })
+abbrev read_at : List Wire → ℕ → Wire
+read_at wires i = get_or wires i (record { from = 0; to = 0; port = 0; stations = 0; depth = 0 })
 
 abbrev Within : ℕ → Wire → Type 0
 Within i w = (i < 96) × (w.from < 64) × (w.to < 64) × (w.port < 3) × (w.stations ≤ 8)
 
-within : (img : List ℕ) → Accepted img → (wires : Wires) → wires ≡ wires_below img (channels img) → (i : ℕ) → i < channels img → Within i (read_at wires i)
+within : (img : List ℕ) → Accepted img → (wires : List Wire) → wires ≡ wires_below img (channels img) → (i : ℕ) → i < channels img → Within i (read_at wires i)
 within img net wires e i h =
     let b = wire-within img net i h _ (wire-read img i h wires e) in
     (omega (arith, net.few_channels), b.0, b.1, b.2, b.3)
@@ -170,7 +169,7 @@ loop-n-preserved c =
     (elim c.if-stalls-starved.branch [
       | then-stalls-starved w' ↦
           let f = sym test ∙ w'.if-stalls-starved.true in
-          inl (f, (_, w'.fired.ensures ∙ fired-read img net s fit w n there f _ c.kinds_of-kinds.ensures scan.brought brought _ _ _ (to_z-of_z (told (at (3 * n)) w'.fired-arg-then-stalls-starved-1.given)) (to_z-of_z (told (at (3 * n + 1)) w'.fired-arg-then-stalls-starved-2-1.given)) (to_z-of_z (told (at (3 * n + 2)) w'.fired-arg-then-stalls-starved-3-1.given)), w'.s-is), w'.fires-is)
+          inl (f, (_, w'.fired.ensures ∙ fired-read img net s fit w n there f _ c.kinds_of-kinds.ensures scan.brought brought _ _ _ (to_z-of_z (told (at (3 * n)) w'.fired-arg-1.given)) (to_z-of_z (told (at (3 * n + 1)) w'.fired-arg-then-stalls-starved-1.given)) (to_z-of_z (told (at (3 * n + 2)) w'.fired-arg-then-stalls-starved-2-1.given)), w'.s-is), w'.fires-is)
       | else-stalls-starved w' ↦ inr (sym test ∙ w'.if-stalls-starved.false, w'.s-is, w'.fires-is)
     ]) in
     (omega arith, r.0, r.1)
