@@ -50,7 +50,7 @@ row_left row (x ∷ xs) [] = row
 row_left row (x ∷ xs) (stop ∷ stops) = row_left (bench_after row (offered x) (eqb stop 1)) xs stops
 
 -- ---- one station
--- 004, table 1: "I T R R T T I S R T" where its valid bits and stops are those of the station's leaving link
+-- a table of readings: "I T R R T T I S R T" where its valid bits and stops are those of the station's leaving link
 table1 :
     answers (none ∷ []) (1 ∷ 2 ∷ 3 ∷ 0 ∷ 0 ∷ 0 ∷ 0 ∷ 4 ∷ 0 ∷ 0 ∷ []) (0 ∷ 0 ∷ 1 ∷ 1 ∷ 0 ∷ 0 ∷ 0 ∷ 1 ∷ 1 ∷ 0 ∷ []) ≡
     took i ∷ took (t 1) ∷ took (r 2) ∷ r 2 ∷ t 2 ∷ t 3 ∷ i ∷ took s ∷ r 4 ∷ t 4 ∷ []
@@ -59,7 +59,7 @@ unfolding
     bench_after
 table1 = refl
 
--- 000, figure 6, cycles 1 to 11: 7 is not taken in cycle 10, when the station stops its link (stopOut), and is taken in cycle 11
+-- eleven more cycles: 7 is not taken in cycle 10, when the station stops its link (stopOut), and is taken in cycle 11
 figure6 :
     let enter : List ℕ = 1 ∷ 0 ∷ 2 ∷ 0 ∷ 3 ∷ 4 ∷ 0 ∷ 5 ∷ 6 ∷ 7 ∷ 7 ∷ [] in
     let stop : List ℕ = 0 ∷ 0 ∷ 0 ∷ 0 ∷ 1 ∷ 0 ∷ 1 ∷ 0 ∷ 1 ∷ 0 ∷ 0 ∷ [] in

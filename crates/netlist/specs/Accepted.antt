@@ -10,7 +10,7 @@ pub record Feeder (img : List ℕ) (n p : ℕ) : Type 0 where
   pub node : to img channel ≡ n
   pub input : port img channel ≡ p
 
--- In document 01's words: "N (nodes, 1 to 64)", "C (channels, 0 to 96)", "The length is 2 + 5N + 5C", the table of kinds, wires that name
+-- In the rules' words: "N (nodes, 1 to 64)", "C (channels, 0 to 96)", "The length is 2 + 5N + 5C", the table of kinds, wires that name
 -- nodes and ports that are there, "Each input port is fed by exactly one channel" (by no second, and by one), "stations 0 to 8, queue 1 to 8",
 -- "At most 256 stations stand in one image".
 pub record Accepted (img : List ℕ) : Type 0 where

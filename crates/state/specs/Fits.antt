@@ -1,4 +1,4 @@
--- Number 21: "the state does not fit the image. It fits when:" the six conditions below hold, in document 01's order.
+-- Number 21: "the state does not fit the image. It fits when:" the six conditions below hold, in this order.
 use Rattle.std.specs.Prelude.{Bool, ◌&&◌, ◌||◌, List, ℕ, ◌+◌, eqb, leb, ltb}
 use Rattle.laws.specs.Below.{all_below, sum_below}
 use Rattle.laws.specs.Lists.{zero_from}

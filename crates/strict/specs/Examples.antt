@@ -29,7 +29,7 @@ figure4-cycles :
 unfolding table pick_below signed nodes channels kind parameter wire from to port feeds port_value next_of wrap exact next_value strict_next strict_cycle
 figure4-cycles = refl
 
--- the tokens of document 01's trace, channel by channel: T10 T11 .., T100 T101 .., T0 T110 T112 ..
+-- the tokens of figure 4's trace, channel by channel: T10 T11 .., T100 T101 .., T0 T110 T112 ..
 figure4_streams :
     (table (stream figure4 0) 8 ≡ pos 10 ∷ pos 11 ∷ pos 12 ∷ pos 13 ∷ pos 14 ∷ pos 15 ∷ pos 16 ∷ pos 17 ∷ []) ×
     (table (stream figure4 1) 8 ≡ pos 100 ∷ pos 101 ∷ pos 102 ∷ pos 103 ∷ pos 104 ∷ pos 105 ∷ pos 106 ∷ pos 107 ∷ []) ×
