@@ -170,7 +170,7 @@ loop-n-preserved c =
     (elim c.if-stalls-starved.branch [
       | then-stalls-starved w' ↦
           let f = sym test ∙ w'.if-stalls-starved.true in
-          inl (f, (_, w'.fired.ensures ∙ fired-read img net s fit w n there f _ c.kinds_of-kinds.ensures scan.brought brought _ _ _ (to_z-of_z (told (at (3 * n)) w'.fired-arg-1.given)) (to_z-of_z (told (at (3 * n + 1)) w'.fired-arg-then-stalls-starved-1.given)) (to_z-of_z (told (at (3 * n + 2)) w'.fired-arg-then-stalls-starved-2-1.given)), w'.s-is), w'.fires-is)
+          inl (f, (_, w'.fired.ensures ∙ fired-read img net s fit w n there f _ c.kinds_of-kinds.ensures scan.brought brought _ _ _ (to_z-of_z (told (at (3 * n)) w'.fired-arg-then-stalls-starved-1.given)) (to_z-of_z (told (at (3 * n + 1)) w'.fired-arg-then-stalls-starved-2-1.given)) (to_z-of_z (told (at (3 * n + 2)) w'.fired-arg-then-stalls-starved-3-1.given)), w'.s-is), w'.fires-is)
       | else-stalls-starved w' ↦ inr (sym test ∙ w'.if-stalls-starved.false, w'.s-is, w'.fires-is)
     ]) in
     (omega arith, r.0, r.1)
