@@ -1,9 +1,8 @@
 -- The lines of a trace: "One space separates fields, and a value follows its letter directly. .. Every line, the last too, ends with one line feed."
-use Rattle.std.specs.Prelude.{Bool, ◌||◌, ℕ, eqb, ℤ, pos, length, get_or}
+use Rattle.std.specs.Prelude.{Bool, ◌||◌, ℕ, eqb, ℤ, pos, get_or}
 use mathlib.Core.List.{List, [], ◌∷◌, ◌++◌, flat_map}
 use Prim.Native.Char.{code}
 use Rattle.laws.specs.Choice.{◌if◌else◌}
-use Rattle.laws.specs.Table.{table}
 use Rattle.relay.specs.declared.Reading.{Reading}
 use Rattle.text.specs.Ascii.{ascii}
 use Rattle.text.specs.Decimal.{decimal, signed_text}

@@ -14,7 +14,7 @@ use Rattle.refusal.specs.declared.Refusal.TheVariants.{Room}
 use Rattle.text.specs.Ascii.{ascii}
 use Rattle.text.specs.Put.{Put}
 use Rattle.text.specs.PutLaws.{put_one, put-after, put_long, put_front}
-use Rattle.text.specs.Write.{written_answer, written_over, WriteDone, WriteTold, write_told, Begins}
+use Rattle.text.specs.Write.{written_answer, written_over, WriteDone, write_told, Begins}
 
 module _ (text out : List ℕ) where
   pub write_none : length out < length text → WriteDone text out (Err Room) out

@@ -1,5 +1,4 @@
 use mathlib.Core.Path.{◌≡◌}
-use Prim.Native.Nat.{◌≤◌}
 use Rattle.cycle.specs.Parts.{wires_below}
 use Rattle.cycle.proofs.wires_of.Given as goal
 

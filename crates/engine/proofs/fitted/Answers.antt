@@ -1,6 +1,5 @@
 -- `engine::fitted` meets its contract. Assumes nothing.
-use Rattle.std.proofs.Common.{rules, ◌≡◌, sym, ap, ◌∙◌, arith, true}
-use Rattle.netlist.specs.Judge.{judge}
+use Rattle.std.proofs.Common.{rules, ◌≡◌, sym, ap, ◌∙◌, arith}
 use Rattle.netlist.specs.AcceptedLaws.{accepted}
 use Rattle.refusal.specs.NumberLaws.{number_positive}
 use Rattle.state.specs.Fits.{fits}

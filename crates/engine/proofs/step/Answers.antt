@@ -5,8 +5,7 @@ use Rattle.netlist.specs.Image.{channels}
 use Rattle.refusal.specs.Number.{number}
 use Rattle.refusal.specs.NumberLaws.{number_positive}
 use Rattle.state.specs.declared.State.{State}
-use Rattle.state.specs.Told.{Told}
-use Rattle.cycle.specs.Cycle.{state_after, after, letters_of, values_of}
+use Rattle.cycle.specs.Cycle.{after, letters_of, values_of}
 use Rattle.engine.specs.Answer.{step_of}
 use Rattle.engine.specs.AnswerLaws.{number_ok, step-none, step-made}
 use Rattle.engine.proofs.step.Goals.{In-Ok}

@@ -1,7 +1,7 @@
 -- `state::passes::channels_fit` meets its contract. The invariants: the channels below c fit, and of channel c the stations below j; what these hold
 -- is counted. Assumes nothing.
 use mathlib.Core.Path.{◌≡◌, refl}
-use Prim.Native.Nat.{◌≤◌, ◌<◌, ◌^◌}
+use Prim.Native.Nat.{◌<◌, ◌^◌}
 use native.Mathlib.Numerals.{add-one}
 use native.Mathlib.Omega.{arith}
 use borrow.Author.Rules.{rules}
