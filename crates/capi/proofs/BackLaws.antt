@@ -22,8 +22,7 @@ use Rattle.state.specs.declared.Node.{Node}
 use Rattle.state.specs.declared.State.{State}
 use Rattle.state.specs.State.{no_node, no_queue, node_at, mark_at, queue_at}
 use Rattle.cycle.specs.Cycle.{after}
-use Rattle.engine.specs.declared.Ran.{Ran}
-use Rattle.engine.specs.Answer.{run_answer}
+use Rattle.engine.specs.Answer.{RunTold, run_answer}
 use Rattle.engine.specs.AnswerLaws.{ran_taken, run_none, run-made}
 use Rattle.engine.specs.Taken.{state_number, taken_from}
 use Rattle.text.specs.LinesLaws.{flat_next}
@@ -256,8 +255,8 @@ unfolding after
 run_still img s words z = at (ℕ_discrete (state_number img s) 0)
   where
     at : Dec (state_number img s ≡ 0) → (run_answer img s words).state ≡ s
-    at (no n) = sym (ap (λ (a : Ran). a.state) (run_none img s words n))
+    at (no n) = sym (ap (λ (a : RunTold). a.state) (run_none img s words n))
     at (yes e) =
         let r = ran_taken img words s ∙ run-made img s words e in
-        let k : (taken_from (nodes img) s.cycles words).steps ≡ 0 = ap (λ (a : Ran). a.steps) r ∙ z in
-        sym (ap (λ (a : Ran). a.state) r) ∙ rw k
+        let k : (taken_from (nodes img) s.cycles words).steps ≡ 0 = ap (λ (a : RunTold). a.steps) r ∙ z in
+        sym (ap (λ (a : RunTold). a.state) r) ∙ rw k

@@ -1,15 +1,17 @@
 -- Laws of bytes: what the writers and the readers do part by part. Assumes nothing.
-use Rattle.std.specs.Prelude.{true, false, ◌≡◌, refl, ℕ, suc, ◌+◌, ◌*◌, ◌^◌, ◌<◌, ◌≤◌, ℤ, pos, negsuc, ◌+ℤ◌, length, get_or, set, drop}
-use Rattle.std.proofs.Common.{true≢false, ◌∙◌, ltb-true, drop_of_length-le}
+use Rattle.std.specs.Prelude.{◌≡◌, refl, ℕ, ◌+◌, ◌*◌, ◌^◌, ◌<◌, ◌≤◌, ℤ, pos, negsuc, length, get_or, drop}
+use Rattle.std.proofs.Common.{◌∙◌, drop_of_length-le}
 use mathlib.Core.List.{List, [], ◌∷◌, ◌++◌, append-nil, flat_map}
 use native.Mathlib.Omega.{arith}
 use Rattle.std.proofs.Math.ListN.{length-append}
-use Rattle.std.specs.Int.Signed.{mag, lt_z}
-use Rattle.laws.specs.SignedLaws.{sub_above}
+use Rattle.std.specs.Int.Signed.{mag}
+use Rattle.std.specs.Int.{w32}
+use Rattle.std.proofs.Common.{of_z}
 use Rattle.laws.specs.Table.{table}
 use Rattle.laws.specs.TableLaws.{length-table, table_own}
 use Rattle.text.specs.Put.{Put}
-use Rattle.text.specs.PutLaws.{put_two, put-after}
+use Rattle.text.specs.LinesLaws.{flat_own}
+use Rattle.text.specs.PutLaws.{put-after, put_long}
 use Rattle.relay.specs.declared.Station.{Station}
 use Rattle.relay.specs.RowCycle.{no_station}
 use Rattle.shell.specs.declared.Queue.{Queue}
@@ -18,31 +20,17 @@ use Rattle.state.specs.declared.State.{State}
 use Rattle.state.specs.State.{no_node, no_queue, node_at, mark_at, queue_at}
 use Rattle.capi.specs.Bytes.{each, word_bytes, bits_of, token_bytes, node_bytes, station_bytes, queue_bytes, state_bytes, state_length}
 
--- ---- the bits of a token: 2 ^ 32 more if it is below 0
+-- ---- the bits of a token
 pub bits_few : (z : ℤ) → mag z < 2 ^ 31 → bits_of z < 2 ^ 32
 unfolding bits_of
 bits_few (pos n) h = let l : n < 2 ^ 31 = h in omega arith
 bits_few (negsuc n) h = omega arith
 
-pub bits_below : (z : ℤ) → mag z < 2 ^ 31 → lt_z z (pos 0) ≡ true → z +ℤ pos 4294967296 ≡ pos (bits_of z)
+-- as the machine has them
+pub bits_same : (z : ℤ) → of_z w32 z ≡ bits_of z
 unfolding bits_of
-bits_below (pos n) h e = let l : n < 0 = ltb-true n 0 e in absurd (omega arith)
-bits_below (negsuc n) h e = sub_above 4294967296 (suc n) (omega arith)
-
-pub bits_above : (z : ℤ) → lt_z z (pos 0) ≡ false → z ≡ pos (bits_of z)
-unfolding bits_of
-bits_above (pos n) e = refl
-bits_above (negsuc n) e = absurd (true≢false e)
-
--- ---- four bytes, stored
-pub put_four :
-    (a b c d i : ℕ) (l : List ℕ)
-    → Put (a ∷ b ∷ c ∷ d ∷ []) i l (set (set (set (set l i a) (i + 1) b) (i + 2) c) (i + 3) d) (i + 4)
-put_four a b c d i l =
-    let p = put-after (put_two a b i l) (put_two c d (i + 2) (set (set l i a) (i + 1) b)) in
-    let e : i + 2 + 1 ≡ i + 3 = omega arith in
-    let f : i + 2 + 2 ≡ i + 4 = omega arith in
-    rw (e, f) at p
+bits_same (pos n) = refl
+bits_same (negsuc n) = refl
 
 -- ---- how many bytes each takes
 module _ {A : Type 0} (f : A → List ℕ) (w : ℕ) (long : (x : A) → length (f x) ≡ w) where
@@ -58,9 +46,24 @@ module _ {A : Type 0} (f : A → List ℕ) (w : ℕ) (long : (x : A) → length 
   pub each_end : (g : ℕ → A) (n : ℕ) {at end : ℕ} {old new : List ℕ} → Put (each f g n) at old new end → end ≡ at + w * n
   each_end g n p = p.next ∙ rw (each_long g n)
 
+  -- where a list of n of them ends
+  pub end_all :
+      (l : List A) {n : ℕ} → length l ≡ n → {at end : ℕ} {old new : List ℕ} → Put (flat_map f l) at old new end
+      → (end ≡ at + w * n) × (length new ≡ length old)
+  end_all l e p = (p.next ∙ rw (flat_long l, e), put_long p)
+
+-- a list of n elements, and its elements read one by one
+pub each_own :
+    {A : Type 0} (f : A → List ℕ) (l : List A) (d : A) {n : ℕ} → length l ≡ n → {at end : ℕ} {old new : List ℕ}
+    → Put (flat_map f l) at old new end → Put (each f (λ i. get_or l i d) n) at old new end
+each_own f l d e p = rw (← e, flat_own f l d) p
+
 pub word_long : (n : ℕ) → length (word_bytes n) ≡ 4
 unfolding word_bytes
 word_long n = refl
+
+pub end_word : (n : ℕ) {i : ℕ} {old new : List ℕ} → Put (word_bytes n) 0 old new i → (i ≡ 4) × (length new ≡ length old)
+end_word n p = (omega (arith, p.next, word_long n), put_long p)
 
 pub token_long : (z : ℤ) → length (token_bytes z) ≡ 4
 unfolding token_bytes

@@ -9,7 +9,7 @@ use Rattle.state.specs.declared.State.{State}
 use Rattle.state.specs.Fresh.{fresh_answer}
 use Rattle.cycle.specs.Cycle.{state_after}
 use Rattle.engine.specs.Answer.{step_of, letters_written, values_written, run_answer}
-use Rattle.text.specs.Write.{written_answer, written_over}
+use Rattle.text.specs.Write.{written_answer, written_over, write_told}
 use Rattle.tracer.specs.Done.{line_answer, line_over, closing_answer, closing_over}
 use Rattle.bench.specs.Bench.{bench_answer, bench_after}
 use Rattle.capi.specs.Bytes.{state_bytes, state_length, station_bytes, state_in}
@@ -60,8 +60,8 @@ pub record ClosingCall (img bytes out : List ℕ) (number long : ℕ) (out_left 
   pub over : out_left ≡ closing_over img (state_in bytes) out
 
 pub record TextCall (text out : List ℕ) (number long : ℕ) (out_left : List ℕ) : Type 0 where
-  pub numbered : number ≡ (written_answer text out).number
-  pub measured : long ≡ (written_answer text out).length
+  pub numbered : number ≡ (write_told (written_answer text out)).number
+  pub measured : long ≡ (write_told (written_answer text out)).length
   pub over : out_left ≡ written_over text out
 
 -- ---- a bench, on the row that bytes are

@@ -1,5 +1,5 @@
 -- What each way out of the calls has done. Assumes nothing.
-use Rattle.std.specs.Prelude.{true, false, List, ◌++◌, ◌≡◌, ℕ, ◌≤◌, ◌<◌, ℤ, length, drop}
+use Rattle.std.specs.Prelude.{true, false, List, ◌++◌, ◌≡◌, ℕ, ◌≤◌, ◌<◌, ℤ, length, drop, Result}
 use Rattle.std.proofs.Common.{true≢false, ◌∙◌, arith}
 use Rattle.std.proofs.Math.Logic.{⊎_elim}
 use Rattle.std.proofs.Math.Path.{sym, ap}
@@ -8,22 +8,19 @@ use borrow.Author.Tests.{eqb-true, eqb-false, ne_eqb, lt-ltb, le-ltb}
 use Rattle.std.proofs.Math.Dec.{eqb}
 use Rattle.laws.specs.Cases.{true_or_false}
 use Rattle.netlist.specs.Judge.{judge}
-use Rattle.state.specs.declared.Fresh.{Fresh}
 use Rattle.state.specs.declared.State.{State}
 use Rattle.state.specs.Fits.{fits, cycles_fit}
 use Rattle.state.specs.Fresh.{fresh_answer, FreshDone}
 use Rattle.cycle.specs.Cycle.{state_after}
-use Rattle.engine.specs.declared.Ran.{Ran}
-use Rattle.engine.specs.declared.Stepped.{Stepped}
-use Rattle.engine.specs.Answer.{step_number, step_of, step_answer}
+use Rattle.state.specs.Told.{Told}
+use Rattle.engine.specs.Answer.{step_number, step_of, step_answer, RunTold}
 use Rattle.engine.specs.AnswerLaws.{number_ok, state_ok, run_none}
 use Rattle.engine.specs.Done.{StepDone, RunDone}
 use Rattle.engine.specs.Taken.{state_number}
-use Rattle.text.specs.declared.Written.{Written}
-use Rattle.text.specs.Write.{WriteDone}
-use Rattle.tracer.specs.declared.Lined.{Lined}
-use Rattle.tracer.specs.Done.{line_answer, LineDone, ClosingDone}
+use Rattle.refusal.specs.declared.Refusal.{Refusal}
+use Rattle.text.specs.Write.{WriteDone, WriteTold, write_told}
 use Rattle.tracer.specs.DoneLaws.{line_made}
+use Rattle.tracer.specs.Done.{LineTold, line_answer, LineDone, ClosingDone}
 use Rattle.capi.specs.Bytes.{state_bytes, state_length, state_in, no_state}
 use Rattle.capi.specs.BytesLaws.{all_stored}
 use Rattle.capi.specs.Calls.{fresh_number, fresh_over, state_left, FreshCall, StepCall, RunCall, LineCall, ClosingCall, TextCall}
@@ -48,10 +45,10 @@ pub state-stored :
 state-stored bytes s e q = all_stored bytes (state_bytes s) state_length (omega (arith, e)) q
 
 -- ---- a fresh state
-module _ (old : List ℕ) {img : List ℕ} {answer : Fresh} (d : FreshDone img answer) where
+module _ (old : List ℕ) {img : List ℕ} {answer : Told} (d : FreshDone img answer) where
   fresh-number : answer.number ≡ judge img
   unfolding fresh_answer
-  fresh-number = ap (λ (a : Fresh). a.number) d.answered
+  fresh-number = ap (λ (a : Told). a.number) d.answered
 
   pub fresh_written :
       {left : List ℕ} → state_length ≤ length old → left ≡ state_bytes answer.state ++ drop state_length old → FreshCall img old answer.number left
@@ -83,11 +80,11 @@ module _ (old : List ℕ) {img : List ℕ} {answer : Fresh} (d : FreshDone img a
 
 -- ---- a step
 module _
-    (bytes : List ℕ) {img : List ℕ} {word : ℕ} {letters : List ℕ} {values : List ℤ} {answer : Stepped} {letters_left : List ℕ} {values_left : List ℤ}
+    (bytes : List ℕ) {img : List ℕ} {word : ℕ} {letters : List ℕ} {values : List ℤ} {answer : Told} {letters_left : List ℕ} {values_left : List ℤ}
     (d : StepDone img (state_in bytes) word letters values answer letters_left values_left) where
   step-number : answer.number ≡ step_of img (state_in bytes) word letters values
   unfolding step_answer
-  step-number = ap (λ (a : Stepped). a.number) d.answered
+  step-number = ap (λ (a : Told). a.number) d.answered
 
   pub step-sized : answer.number ≡ 0 → length bytes ≡ state_length
   unfolding step_of
@@ -98,7 +95,7 @@ module _
       → StepCall img bytes word letters values answer.number left letters_left values_left
   unfolding state_left step_answer
   step-called z e =
-      let t : answer.state ≡ state_after img word (state_in bytes) = ap (λ (a : Stepped). a.state) d.answered ∙ rw (sym step-number ∙ z) in
+      let t : answer.state ≡ state_after img word (state_in bytes) = ap (λ (a : Told). a.state) d.answered ∙ rw (sym step-number ∙ z) in
       record {
         numbered = step-number;
         changed = state-stored bytes answer.state (step-sized z) e ∙ rw (z, t);
@@ -112,39 +109,39 @@ module _
       record { numbered = step-number; changed = rw (ne_eqb answer.number 0 n); lettered = d.lettered; valued = d.valued }
 
 -- ---- a run
-module _ (bytes : List ℕ) {img words : List ℕ} {answer : Ran} (d : RunDone img (state_in bytes) words answer) where
+module _ (bytes : List ℕ) {img words : List ℕ} {answer : RunTold} (d : RunDone img (state_in bytes) words answer) where
   pub run-sized : (answer.steps ≡ 0 → ⊥) → length bytes ≡ state_length
   run-sized h = at (ℕ_discrete (state_number img (state_in bytes)) 0)
     where
       at : Dec (state_number img (state_in bytes) ≡ 0) → length bytes ≡ state_length
       at (yes e) = sized img bytes e
-      at (no n) = absurd (h (ap (λ (a : Ran). a.steps) (d.answered ∙ sym (run_none img (state_in bytes) words n))))
+      at (no n) = absurd (h (ap (λ (a : RunTold). a.steps) (d.answered ∙ sym (run_none img (state_in bytes) words n))))
 
   pub run-called :
       {left : List ℕ} → (answer.steps ≡ 0 → ⊥) → left ≡ state_bytes answer.state ++ drop state_length bytes
       → RunCall img bytes words answer.number answer.steps left
   run-called h e =
       record {
-        numbered = ap (λ (a : Ran). a.number) d.answered;
-        counted = ap (λ (a : Ran). a.steps) d.answered;
+        numbered = ap (λ (a : RunTold). a.number) d.answered;
+        counted = ap (λ (a : RunTold). a.steps) d.answered;
         changed = state-stored bytes answer.state (run-sized h) e ∙ rw (ne_eqb answer.steps 0 h)
-            (ap (λ (a : Ran). state_bytes a.state) d.answered);
+            (ap (λ (a : RunTold). state_bytes a.state) d.answered);
       }
 
   pub run_refused : answer.steps ≡ 0 → RunCall img bytes words answer.number answer.steps bytes
   run_refused z =
       record {
-        numbered = ap (λ (a : Ran). a.number) d.answered;
-        counted = ap (λ (a : Ran). a.steps) d.answered;
+        numbered = ap (λ (a : RunTold). a.number) d.answered;
+        counted = ap (λ (a : RunTold). a.steps) d.answered;
         changed = rw z;
       }
 
 -- ---- lines
 module _
-    (bytes : List ℕ) {img : List ℕ} {word : ℕ} {out : List ℕ} {answer : Lined} {out_left : List ℕ}
+    (bytes : List ℕ) {img : List ℕ} {word : ℕ} {out : List ℕ} {answer : LineTold} {out_left : List ℕ}
     (d : LineDone img (state_in bytes) word out answer out_left) where
   line_number : answer.number ≡ (line_answer img (state_in bytes) word out).number
-  line_number = ap (λ (a : Lined). a.number) d.answered
+  line_number = ap (λ (a : LineTold). a.number) d.answered
 
   pub line_sized : answer.number ≡ 0 → length bytes ≡ state_length
   unfolding line_answer
@@ -155,6 +152,14 @@ module _
       (λ (q : eqb number 0 ≡ false). absurd (eqb-false number 0 q (rw q at (sym line_number ∙ z))))
       (true_or_false (eqb number 0))
 
+  -- where the line was written the state is the one after the cycle
+  line_after : answer.number ≡ 0 → answer.state ≡ state_after img word (state_in bytes)
+  line_after z =
+      (line_made (record {
+        answered = ap (λ k. record { number = k; length = answer.length; state = answer.state }) (sym z) ∙ d.answered;
+        over = d.over;
+      })).1
+
   pub line_called :
       {left : List ℕ} → answer.number ≡ 0 → left ≡ state_bytes answer.state ++ drop state_length bytes
       → LineCall img bytes word out answer.number answer.length left out_left
@@ -162,8 +167,8 @@ module _
   line_called z e =
       record {
         numbered = line_number;
-        measured = ap (λ (a : Lined). a.length) d.answered;
-        changed = state-stored bytes answer.state (line_sized z) e ∙ rw (z, (line_made d z).1);
+        measured = ap (λ (a : LineTold). a.length) d.answered;
+        changed = state-stored bytes answer.state (line_sized z) e ∙ rw (z, line_after z);
         over = d.over;
       }
 
@@ -172,27 +177,27 @@ module _
   line_refused n =
       record {
         numbered = line_number;
-        measured = ap (λ (a : Lined). a.length) d.answered;
+        measured = ap (λ (a : LineTold). a.length) d.answered;
         changed = rw (ne_eqb answer.number 0 n);
         over = d.over;
       }
 
 pub closing_called :
-    (bytes : List ℕ) {img out : List ℕ} {answer : Written} {out_left : List ℕ} → ClosingDone img (state_in bytes) out answer out_left
+    (bytes : List ℕ) {img out : List ℕ} {answer : WriteTold} {out_left : List ℕ} → ClosingDone img (state_in bytes) out answer out_left
     → ClosingCall img bytes out answer.number answer.length out_left
 closing_called bytes d =
     record {
-      numbered = ap (λ (a : Written). a.number) d.answered;
-      measured = ap (λ (a : Written). a.length) d.answered;
+      numbered = ap (λ (a : WriteTold). a.number) d.answered;
+      measured = ap (λ (a : WriteTold). a.length) d.answered;
       over = d.over;
     }
 
 pub text-called :
-    {text out : List ℕ} {answer : Written} {out_left : List ℕ} → WriteDone text out answer out_left
-    → TextCall text out answer.number answer.length out_left
+    {text out : List ℕ} {answer : Result ℕ Refusal} {out_left : List ℕ} → WriteDone text out answer out_left
+    → TextCall text out (write_told answer).number (write_told answer).length out_left
 text-called d =
     record {
-      numbered = ap (λ (a : Written). a.number) d.answered;
-      measured = ap (λ (a : Written). a.length) d.answered;
+      numbered = ap (λ a. (write_told a).number) d.answered;
+      measured = ap (λ a. (write_told a).length) d.answered;
       over = d.over;
     }

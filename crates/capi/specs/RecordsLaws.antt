@@ -41,7 +41,7 @@ unfolding fits no_record
 no_record-fits = refl
 
 -- the first elements of a list, read one by one
-first_own : {A : Type 0} (l : List A) (d : A) (n : ℕ) → n ≤ length l → table (λ i. get_or l i d) n ≡ take n l
+pub first_own : {A : Type 0} (l : List A) (d : A) (n : ℕ) → n ≤ length l → table (λ i. get_or l i d) n ≡ take n l
 first_own l d n h = sym (take-table (λ i. get_or l i d) n (length l) h) ∙ ap (take n) (sym (table_own l d))
 
 -- ---- a station

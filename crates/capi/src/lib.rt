@@ -11,18 +11,61 @@ mod write;
 
 ghost use Rattle.std.specs.Prelude.{[], ◌∷◌, ◌≡◌, length};
 ghost use Rattle.netlist.specs.Judge.{judge};
+ghost use Rattle.refusal.specs.Number.{number_of, number_if};
 ghost use Rattle.strict.specs.Answer.{strict_number, strict_written};
+ghost use Rattle.state.specs.Told.{told};
 ghost use Rattle.text.specs.Trace.{header};
 ghost use Rattle.capi.specs.Bytes.{record_in, row_in};
 ghost use Rattle.capi.specs.Calls.{FreshCall, StepCall, RunCall, LineCall, ClosingCall, TextCall, BenchCall};
 
-use state::State;
+use refusal::Refusal;
+use state::{Refused, State};
+use text::Text;
+
+// The number that C is told.
+fn number(answer: Result<(), Refusal>) -> u8
+    ensures { result ≡ number_of answer }
+{
+    match answer {
+        Ok(()) => 0,
+        Err(refusal) => refusal.number(),
+    }
+}
+
+// What stopped a run, as C is told it.
+fn stop_number(stopped: Option<Refusal>) -> u8
+    ensures { result ≡ number_if stopped }
+{
+    match stopped {
+        Some(refusal) => refusal.number(),
+        None => 0,
+    }
+}
+
+// A number and a state, as C is told them: it is handed a state by a refused call too.
+#[derive(Clone, Copy)]
+struct Numbered {
+    number: u8,
+    state: State,
+}
+
+fn as_told(answer: Result<State, Refused>) -> Numbered
+    ensures { told answer ≡ record { number = result.number; state = result.state } }
+{
+    match answer {
+        Ok(state) => Numbered { number: 0, state },
+        Err(refused) => Numbered {
+            number: refused.refusal.number(),
+            state: refused.state,
+        },
+    }
+}
 
 // Judges an image.
 pub fn channel_bench_judge(image: &[u8]) -> u8
     ensures { result ≡ judge image.now }
 {
-    netlist::judge(image)
+    number(netlist::judge(image))
 }
 
 // Writes an image's fresh state, or zeros if the image is refused, to the first bytes of `state`; if
@@ -30,7 +73,7 @@ pub fn channel_bench_judge(image: &[u8]) -> u8
 pub fn channel_bench_fresh(image: &[u8], state: &mut [u8]) -> u8
     ensures { FreshCall image.now state.old result state.new }
 {
-    let fresh = State::fresh(image);
+    let fresh = as_told(State::fresh(image));
     let number = fresh.number;
     if read::STATE <= state.len() {
         write::put_state(fresh.state, state);
@@ -50,11 +93,13 @@ pub fn channel_bench_step(
 ) -> u8
     ensures { StepCall image.now state.old word letters.old values.old result state.new letters.new values.new }
 {
-    let stepped = engine::step(image, read::state_in(state), word, letters, values);
-    if stepped.number == 0 {
-        write::put_state(stepped.state, state);
+    match engine::step(image, read::state_in(state), word, letters, values) {
+        Ok(after) => {
+            write::put_state(after, state);
+            0
+        }
+        Err(refused) => refused.refusal.number(),
     }
-    stepped.number
 }
 
 // A cycle for each word in order, up to the first that is refused: `state` is changed in place, and
@@ -63,11 +108,12 @@ pub fn channel_bench_run(image: &[u8], state: &mut [u8], words: &[u64], steps: &
     ensures { RunCall image.now state.old words.now result steps.new state.new }
 {
     let ran = engine::run(image, read::state_in(state), words);
+    let number = stop_number(ran.stopped);
     *steps = ran.steps;
     if ran.steps != 0 {
         write::put_state(ran.state, state);
     }
-    ran.number
+    number
 }
 
 // Writes the strict system's values in a cycle.
@@ -75,10 +121,7 @@ pub fn channel_bench_strict(image: &[u8], cycle: u32, values: &mut [i32]) -> u8
     ensures value { result ≡ strict_number image.now cycle (length values.old) }
     ensures values_after { values.new ≡ strict_written image.now cycle values.old }
 {
-    match strict::strict(image, cycle, values) {
-        Ok(()) => 0,
-        Err(refusal) => refusal.number(),
-    }
+    number(strict::strict(image, cycle, values))
 }
 
 // The first line of every trace.
@@ -104,12 +147,15 @@ pub fn channel_bench_cycle_line(
 ) -> u8
     ensures { LineCall image.now state.old word out.old result length.new state.new out.new }
 {
-    let lined = tracer::cycle_line(image, read::state_in(state), word, out);
-    *length = lined.length;
-    if lined.number == 0 {
-        write::put_state(lined.state, state);
+    *length = 0;
+    match tracer::cycle_line(image, read::state_in(state), word, out) {
+        Ok(line) => {
+            *length = line.length;
+            write::put_state(line.state, state);
+            0
+        }
+        Err(unwritten) => unwritten.refusal.number(),
     }
-    lined.number
 }
 
 // The closing line after a state.
@@ -121,9 +167,14 @@ pub fn channel_bench_closing_line(
 ) -> u8
     ensures { ClosingCall image.now state.now out.old result length.new out.new }
 {
-    let written = tracer::closing_line(image, read::state_in(state), out);
-    *length = written.length;
-    written.number
+    *length = 0;
+    match tracer::closing_line(image, read::state_in(state), out) {
+        Ok(written) => {
+            *length = written;
+            0
+        }
+        Err(refusal) => refusal.number(),
+    }
 }
 
 // One cycle of a station on its own, changed in place.
@@ -145,7 +196,7 @@ pub fn channel_bench_station(
     *shown = leaving;
     *taken = answer.taken;
     if answer.number == 0 {
-        write::put_station(benched.station, station, 0);
+        write::Stations::put(benched.station, station, 0);
     }
     answer.number
 }

@@ -7,6 +7,7 @@ ghost use Rattle.capi.specs.Bytes.{token_in, node_in, station_in, queue_in, no_s
 use relay::{Row, Station};
 use shell::Queue;
 use state::{Node, State};
+use std::array;
 
 // How many bytes a state has.
 pub(crate) const STATE: usize = 10692;
@@ -19,9 +20,7 @@ fn word_in(bytes: &[u8], at: usize) -> u32
     requires { at + 4 ≤ length bytes.now }
     ensures { result ≡ four_bytes bytes.now at }
 {
-    let low = bytes[at] as u32 + 256 * bytes[at + 1] as u32;
-    let high = bytes[at + 2] as u32 + 256 * bytes[at + 3] as u32;
-    low + 65536 * high
+    u32::from_le_bytes([bytes[at], bytes[at + 1], bytes[at + 2], bytes[at + 3]])
 }
 
 fn token_in(bytes: &[u8], at: usize) -> i32
@@ -57,12 +56,8 @@ fn queue_in(bytes: &[u8], at: usize) -> Queue
     requires { at + 33 ≤ length bytes.now }
     ensures { result ≡ queue_in bytes.now at }
 {
-    let mut tokens = [0i32; 8];
-    for i in 0..8 {
-        tokens[i] = token_in(bytes, at + 4 * i);
-    }
     Queue {
-        tokens,
+        tokens: array::from_fn(|i| token_in(bytes, at + 4 * i)),
         count: bytes[at + 32],
     }
 }
@@ -72,51 +67,28 @@ fn nodes_in(bytes: &[u8]) -> [Node; 64]
     requires { 516 ≤ length bytes.now }
     ensures { result ≡ table (λ n. node_in bytes.now (4 + 8 * n)) 64 }
 {
-    let none = Node {
-        value: 0,
-        firings: 0,
-    };
-    let mut nodes = [none; 64];
-    for n in 0..64 {
-        let node = node_in(bytes, 4 + 8 * n);
-        nodes[n] = node;
-    }
-    nodes
+    array::from_fn(|n| node_in(bytes, 4 + 8 * n))
 }
 
 fn marks_in(bytes: &[u8]) -> [u8; 96]
     requires { 612 ≤ length bytes.now }
     ensures { result ≡ table (λ c. get_or bytes.now (516 + c) 0) 96 }
 {
-    let mut marks = [0u8; 96];
-    for c in 0..96 {
-        marks[c] = bytes[516 + c];
-    }
-    marks
+    array::from_fn(|c| bytes[516 + c])
 }
 
 fn stations_in(bytes: &[u8]) -> [Station; 768]
     requires { 7524 ≤ length bytes.now }
     ensures { result ≡ table (λ i. station_in bytes.now (612 + 9 * i)) 768 }
 {
-    let mut stations = [Station::empty(); 768];
-    for i in 0..768 {
-        let station = station_in(bytes, 612 + 9 * i);
-        stations[i] = station;
-    }
-    stations
+    array::from_fn(|i| station_in(bytes, 612 + 9 * i))
 }
 
 fn queues_in(bytes: &[u8]) -> [Queue; 96]
     requires { 10692 ≤ length bytes.now }
     ensures { result ≡ table (λ c. queue_in bytes.now (7524 + 33 * c)) 96 }
 {
-    let mut queues = [Queue::empty(); 96];
-    for c in 0..96 {
-        let queue = queue_in(bytes, 7524 + 33 * c);
-        queues[c] = queue;
-    }
-    queues
+    array::from_fn(|c| queue_in(bytes, 7524 + 33 * c))
 }
 
 // What bytes that are no state are read as.
@@ -182,29 +154,11 @@ pub(crate) fn record_count(bytes: &[u8]) -> usize
     (bytes.len() + 8) / RECORD
 }
 
-// How many records of a row are read: none of one that is too long.
-fn records_read(count: usize) -> usize
-    ensures { (result ≤ 8) × (count ≤ 8 → result ≡ count) }
-{
-    if (Row::LENGTH as usize) < count {
-        0
-    } else {
-        count
-    }
-}
-
-// A row of so many records, in the first places of eight. The loop's end is not a constant: unrolled,
-// it would take the row apart into single numbers.
+// A row of so many records, in the first places of eight; of one that is too long, none are read.
 pub(crate) fn row_in(bytes: &[u8], count: usize) -> Row
     ensures { count ≤ 8 → take count result.stations ≡ table (row_record bytes.now) count }
 {
-    let read = records_read(count);
-    let mut stations = [Station::empty(); 8];
-    let mut i: usize = 0;
-    while i < read {
-        let station = row_record(bytes, i);
-        stations[i] = station;
-        i += 1;
+    Row {
+        stations: array::from_fn(|i| row_record(bytes, i)),
     }
-    Row { stations }
 }

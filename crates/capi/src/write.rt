@@ -10,108 +10,65 @@ ghost use Rattle.capi.specs.Bytes.{each, word_bytes, bits_of, token_bytes, node_
 use relay::{Row, Station};
 use shell::Queue;
 use state::{Node, State};
+use text::Text;
 
-fn put_word(n: u32, out: &mut [u8], at: usize) -> usize
-    requires { at + 4 ≤ length out.old }
-    ensures { Put (word_bytes n) at out.old out.new result }
-{
-    out[at] = (n % 256) as u8;
-    out[at + 1] = (n / 256 % 256) as u8;
-    out[at + 2] = (n / 65536 % 256) as u8;
-    out[at + 3] = (n / 16777216 % 256) as u8;
-    at + 4
-}
+// Numbers of 32 bits.
+struct Words;
 
-// The number of the same 32 bits as a token.
-fn bits(token: i32) -> u32
-    ensures { result ≡ bits_of token }
-{
-    let wide = token as i64;
-    if wide < 0 {
-        return (wide + 4294967296) as u32;
+impl Text<u32> for Words {
+    ghost text = { word_bytes };
+
+    fn put(item: u32, out: &mut [u8], at: usize) -> usize {
+        text::put_bytes(&item.to_le_bytes(), out, at)
     }
-    wide as u32
 }
 
-fn put_token(token: i32, out: &mut [u8], at: usize) -> usize
-    requires { at + 4 ≤ length out.old }
-    ensures { Put (token_bytes token) at out.old out.new result }
-{
-    put_word(bits(token), out, at)
-}
+// Tokens.
+struct Tokens;
 
-fn put_tokens(tokens: &[i32], out: &mut [u8], at: usize) -> usize
-    requires { at + 4 * length tokens.now ≤ length out.old }
-    ensures { Put (flat_map token_bytes tokens.now) at out.old out.new result }
-{
-    let mut end = at;
-    let mut i: usize = 0;
-    while i < tokens.len() {
-        end = put_token(tokens[i], out, end);
-        i += 1;
+impl Text<i32> for Tokens {
+    ghost text = { token_bytes };
+
+    fn put(item: i32, out: &mut [u8], at: usize) -> usize {
+        Words::put(item.cast_unsigned(), out, at)
     }
-    end
 }
 
-fn put_node(node: Node, out: &mut [u8], at: usize) -> usize
-    requires { at + 8 ≤ length out.old }
-    ensures { Put (node_bytes node) at out.old out.new result }
-{
-    let firings = put_token(node.value, out, at);
-    put_word(node.firings, out, firings)
-}
+struct Nodes;
 
-pub(crate) fn put_station(station: Station, out: &mut [u8], at: usize) -> usize
-    requires { at + 9 ≤ length out.old }
-    ensures { Put (station_bytes station) at out.old out.new result }
-{
-    let tokens = station.tokens;
-    let count = put_tokens(&tokens, out, at);
-    out[count] = station.count;
-    count + 1
-}
+impl Text<Node> for Nodes {
+    ghost text = { node_bytes };
 
-fn put_queue(queue: Queue, out: &mut [u8], at: usize) -> usize
-    requires { at + 33 ≤ length out.old }
-    ensures { Put (queue_bytes queue) at out.old out.new result }
-{
-    let tokens = queue.tokens;
-    let count = put_tokens(&tokens, out, at);
-    out[count] = queue.count;
-    count + 1
-}
-
-fn put_nodes(nodes: [Node; 64], out: &mut [u8], at: usize) -> usize
-    requires { at + 512 ≤ length out.old }
-    ensures { Put (each node_bytes (λ n. get_or nodes n no_node) 64) at out.old out.new result }
-{
-    let mut end = at;
-    for n in 0..64 {
-        end = put_node(nodes[n], out, end);
+    fn put(item: Node, out: &mut [u8], at: usize) -> usize {
+        let firings = Tokens::put(item.value, out, at);
+        Words::put(item.firings, out, firings)
     }
-    end
 }
 
-fn put_stations(stations: [Station; 768], out: &mut [u8], at: usize) -> usize
-    requires { at + 6912 ≤ length out.old }
-    ensures { Put (each station_bytes (λ i. get_or stations i no_station) 768) at out.old out.new result }
-{
-    let mut end = at;
-    for i in 0..768 {
-        end = put_station(stations[i], out, end);
+pub(crate) struct Stations;
+
+impl Text<Station> for Stations {
+    ghost text = { station_bytes };
+
+    fn put(item: Station, out: &mut [u8], at: usize) -> usize {
+        let tokens = item.tokens;
+        let count = text::put_all::<Tokens, i32>(&tokens, out, at);
+        out[count] = item.count;
+        count + 1
     }
-    end
 }
 
-fn put_queues(queues: [Queue; 96], out: &mut [u8], at: usize) -> usize
-    requires { at + 3168 ≤ length out.old }
-    ensures { Put (each queue_bytes (λ c. get_or queues c no_queue) 96) at out.old out.new result }
-{
-    let mut end = at;
-    for c in 0..96 {
-        end = put_queue(queues[c], out, end);
+struct Queues;
+
+impl Text<Queue> for Queues {
+    ghost text = { queue_bytes };
+
+    fn put(item: Queue, out: &mut [u8], at: usize) -> usize {
+        let tokens = item.tokens;
+        let count = text::put_all::<Tokens, i32>(&tokens, out, at);
+        out[count] = item.count;
+        count + 1
     }
-    end
 }
 
 // The first bytes of what is lent: a state.
@@ -123,11 +80,11 @@ pub(crate) fn put_state(state: State, out: &mut [u8])
     let marks = state.pending;
     let stations = state.stations;
     let queues = state.queues;
-    let first = put_word(state.cycles, out, 0);
-    let second = put_nodes(nodes, out, first);
+    let first = Words::put(state.cycles, out, 0);
+    let second = text::put_all::<Nodes, Node>(&nodes, out, first);
     let third = text::put_bytes(&marks, out, second);
-    let fourth = put_stations(stations, out, third);
-    put_queues(queues, out, fourth);
+    let fourth = text::put_all::<Stations, Station>(&stations, out, third);
+    text::put_all::<Queues, Queue>(&queues, out, fourth);
 }
 
 // The first bytes of what is lent: the first so many records of a row.
@@ -135,10 +92,6 @@ pub(crate) fn put_row(row: Row, count: usize, out: &mut [u8])
     requires { (count ≤ 8) × (9 * count ≤ length out.old) }
     ensures { out.new ≡ each station_bytes (λ i. get_or row.stations i no_station) count ++ drop (9 * count) out.old }
 {
-    let mut end: usize = 0;
-    let mut i: usize = 0;
-    while i < count {
-        end = put_station(row.stations[i], out, end);
-        i += 1;
-    }
+    let stations = row.stations;
+    text::put_all::<Stations, Station>(&stations[..count], out, 0);
 }

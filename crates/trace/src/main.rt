@@ -6,8 +6,9 @@
 // ends the program. Where the input cannot be read, nothing is printed.
 #![tactic(auto)]
 
-ghost use Rattle.std.specs.Prelude.{true, ◌≡◌, min, length};
+ghost use Rattle.std.specs.Prelude.{◌≡◌, min, length, take, Ok, IfOk};
 ghost use Rattle.io.specs.Counts.{IsPrefixLen};
+ghost use Rattle.refusal.specs.Number.{number, number_of};
 ghost use Rattle.state.specs.Fresh.{fresh_state};
 ghost use Rattle.cycle.specs.Cycle.{state_after, after};
 ghost use Rattle.engine.specs.Answer.{step_number};
@@ -17,7 +18,9 @@ ghost use Rattle.text.specs.Write.{Begins};
 ghost use Rattle.tracer.specs.Input.{image_of, words_of, input_number};
 ghost use Rattle.tracer.specs.Trace.{cycle_text, firings_of};
 
+use refusal::Refusal;
 use state::State;
+use std::io;
 
 // The longest input that is not refused: an image of 802 bytes and 4,096 words. What is beyond is only
 // counted (`tracer`'s specs/Head.antt).
@@ -33,6 +36,15 @@ struct Line {
     length: usize,
 }
 
+impl Line {
+    fn text(&self) -> &[u8]
+        requires { IsPrefixLen self.now.length self.now.bytes }
+        ensures { result.now ≡ take self.now.length self.now.bytes }
+    {
+        &self.bytes[..self.length]
+    }
+}
+
 // A cycle's line, and the state after the cycle.
 #[derive(Clone, Copy)]
 struct Cycled {
@@ -40,22 +52,24 @@ struct Cycled {
     state: State,
 }
 
-// What is printed so far: whether every write was taken, and the state after the last cycle.
-#[derive(Clone, Copy)]
-struct Printed {
-    taken: bool,
-    state: State,
+// How many bytes of a line were written that is not refused.
+#[tactic(auto, using(refusal::specs::NumberLaws::number_positive))]
+fn written(answer: Result<usize, Refusal>) -> usize
+    requires { number_of answer ≡ 0 }
+    ensures { answer ≡ Ok result }
+{
+    match answer {
+        Ok(length) => length,
+        Err(_) => 0,
+    }
 }
 
-fn refusal_line(number: u8) -> Line
-    ensures { Begins result.bytes result.length (refused_text number) }
+fn refusal_line(refusal: Refusal) -> Line
+    ensures { Begins result.bytes result.length (refused_text (number refusal)) }
 {
     let mut bytes = [0u8; LINE];
-    let written = text::refused_line(number, &mut bytes);
-    Line {
-        bytes,
-        length: written.length,
-    }
+    let length = written(text::refused_line(refusal.number(), &mut bytes));
+    Line { bytes, length }
 }
 
 fn cycle_line(image: &[u8], state: State, word: u64) -> Cycled
@@ -64,13 +78,20 @@ fn cycle_line(image: &[u8], state: State, word: u64) -> Cycled
     ensures state_value { result.state ≡ state_after image.now word state }
 {
     let mut bytes = [0u8; LINE];
-    let lined = tracer::cycle_line(image, state, word, &mut bytes);
-    let line = Line {
-        bytes,
-        length: lined.length,
-    };
-    let after = lined.state;
-    Cycled { line, state: after }
+    match tracer::cycle_line(image, state, word, &mut bytes) {
+        Ok(lined) => Cycled {
+            line: Line {
+                bytes,
+                length: lined.length,
+            },
+            state: lined.state,
+        },
+        // It is not refused.
+        Err(refused) => Cycled {
+            line: Line { bytes, length: 0 },
+            state: refused.state,
+        },
+    }
 }
 
 fn closing_line(image: &[u8], state: State) -> Line
@@ -78,83 +99,59 @@ fn closing_line(image: &[u8], state: State) -> Line
     ensures { Begins result.bytes result.length (closing_text (firings_of image.now state)) }
 {
     let mut bytes = [0u8; LINE];
-    let written = tracer::closing_line(image, state, &mut bytes);
-    Line {
-        bytes,
-        length: written.length,
-    }
+    let length = written(tracer::closing_line(image, state, &mut bytes));
+    Line { bytes, length }
 }
 
-// Whether the write was taken.
-fn print(rt: &impl Print, line: Line) -> bool
+fn print(rt: &impl Print, line: Line) -> io::Result<()>
     requires { IsPrefixLen line.length line.bytes }
 {
-    let bytes = line.bytes;
-    let length = line.length;
-    rt.write_all(&bytes[..length]).is_ok()
+    rt.write_all(line.text())
 }
 
-// A line for each word.
-fn print_cycles(rt: &impl Print, image: &[u8], input: &[u8]) -> Printed
+// A line for each word; and the state after the last.
+fn print_cycles(rt: &impl Print, image: &[u8], input: &[u8]) -> io::Result<State>
     requires image_value { image.now ≡ image_of input.now }
     requires input_value { input_number input.now (length input.now) ≡ 0 }
-    ensures { result.taken ≡ true → result.state ≡ after image.now (fresh_state image.now) (words_of input.now) }
+    ensures { IfOk result (λ state. state ≡ after image.now (fresh_state image.now) (words_of input.now)) }
 {
-    let fresh = State::fresh(image);
-    let count = tracer::words(input);
-    let mut state = fresh.state;
-    let mut k: usize = 0;
-    while k < count {
-        let word = tracer::word_at(input, k);
-        let cycled = cycle_line(image, state, word);
-        let line = cycled.line;
+    let mut state = match State::fresh(image) {
+        Ok(fresh) => fresh,
+        Err(refused) => refused.state,
+    };
+    for k in 0..tracer::words(input) {
+        let cycled = cycle_line(image, state, tracer::word_at(input, k));
         state = cycled.state;
-        if !print(rt, line) {
-            return Printed {
-                taken: false,
-                state,
-            };
-        }
-        k += 1;
+        print(rt, cycled.line)?;
     }
-    Printed { taken: true, state }
+    Ok(state)
 }
 
 // The trace of an input that is not refused.
-fn print_trace(rt: &impl Print, image: &[u8], input: &[u8])
+fn print_trace(rt: &impl Print, image: &[u8], input: &[u8]) -> io::Result<()>
     requires image_value { image.now ≡ image_of input.now }
     requires input_value { input_number input.now (length input.now) ≡ 0 }
 {
-    let header = text::header();
-    if rt.write_all(&header).is_err() {
-        return;
-    }
-    let printed = print_cycles(rt, image, input);
-    if printed.taken {
-        let state = printed.state;
-        print(rt, closing_line(image, state));
-    }
+    rt.write_all(&text::header())?;
+    let state = print_cycles(rt, image, input)?;
+    print(rt, closing_line(image, state))
 }
 
 // An input of `size` bytes, of which these are the first.
-fn trace(rt: &impl Print, input: &[u8], size: u64)
+fn trace(rt: &impl Print, input: &[u8], size: u64) -> io::Result<()>
     requires { length input.now ≡ min size 33570 }
 {
-    let number = tracer::input_number(input, size);
-    if number != 0 {
-        print(rt, refusal_line(number));
-        return;
+    match tracer::judge(input, size) {
+        Ok(()) => print_trace(rt, &input[..tracer::image_length(input)], input),
+        Err(refusal) => print(rt, refusal_line(refusal)),
     }
-    let image = tracer::image_length(input);
-    print_trace(rt, &input[..image], input);
 }
 
 fn main(rt: HostRuntime) {
     let mut bytes = [0u8; LONGEST];
-    match input::read_to_end(&mut rt.stdin(), &mut bytes) {
+    // What cannot be printed ends the program, which then has nobody to tell.
+    let _ = match input::read_to_end(&mut rt.stdin(), &mut bytes) {
         Ok(input) => trace(&rt, &bytes[..input.kept], input.length),
-        Err(unread) => {
-            let _ = eprintln!(rt; "trace: {unread}");
-        }
-    }
+        Err(unread) => eprintln!(rt; "trace: {unread}"),
+    };
 }

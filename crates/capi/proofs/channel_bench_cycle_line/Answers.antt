@@ -1,18 +1,17 @@
 -- `capi::channel_bench_cycle_line` meets its contract. Assumes nothing.
-use mathlib.Core.Path.{◌≡◌}
+use mathlib.Core.Path.{refl}
 use native.Mathlib.Omega.{arith}
+use Rattle.refusal.specs.NumberLaws.{number_positive}
 use Rattle.capi.specs.CallsLaws.{line_sized, line_called, line_refused}
 use Rattle.capi.proofs.channel_bench_cycle_line.Goals as goal
 
 pub put_state-requires : goal.put_state-requires
-put_state-requires c =
-    let accepted : c.cycle_line-lined.result.number ≡ 0 = omega arith in
-    omega (arith, line_sized c.args.state.now (rw c.state_in.ensures at c.cycle_line-lined.ensures.line_done) accepted)
+put_state-requires c = omega (arith, line_sized c.args.state.now (rw c.state_in.ensures at c.in-Ok.ensures.line_done) refl)
 
-pub returns-then-lined-eq0 : goal.returns-then-lined-eq0
-returns-then-lined-eq0 c =
-    line_called c.args.state.now (rw c.state_in.ensures at c.cycle_line-lined.ensures.line_done) c.if-lined-eq0.true c.put_state.ensures
+pub returns-in-Ok : goal.returns-in-Ok
+returns-in-Ok c = line_called c.args.state.now (rw c.state_in.ensures at c.in-Ok.ensures.line_done) refl c.put_state.ensures
 
-pub returns-else-lined-eq0 : goal.returns-else-lined-eq0
-returns-else-lined-eq0 c =
-    line_refused c.args.state.now (rw c.state_in.ensures at c.cycle_line-lined.ensures.line_done) c.if-lined-eq0.false
+pub returns-in-Err : goal.returns-in-Err
+returns-in-Err c =
+    let p = number_positive c.in-Err.unwritten.refusal in
+    rw c.number.ensures (line_refused c.args.state.now (rw c.state_in.ensures at c.in-Err.ensures.line_done) (λ z. absurd (omega (arith, z, p))))

@@ -5,7 +5,8 @@ use Rattle.text.specs.WriteLaws.{written_begins}
 use Rattle.tracer.specs.DoneLaws.{closing_made}
 use Rattle.trace.proofs.closing_line.Goals as goal
 
+pub written-length-requires : goal.written-length-requires
+written-length-requires c = c.closing_line.ensures.number_value (omega arith) ∙ c.requires
+
 pub returns : goal.returns
-returns c = let w = c.closing_line-written.ensures in
-    let z = w.number_value (omega arith) ∙ c.requires in
-    written_begins (closing_made w.closing_done z) z
+returns c = written_begins (closing_made (rw c.written-length.ensures at c.closing_line.ensures.closing_done))

@@ -1,5 +1,5 @@
 use mathlib.Core.Path.{◌≡◌}
-use Prim.Native.Nat.{◌-◌, ◌≤◌}
+use Prim.Native.Nat.{◌≤◌}
 use lib.ListN.{length, take}
 use Rattle.state.specs.Fresh.{fresh_state}
 use Rattle.cycle.specs.Cycle.{after}
@@ -7,8 +7,4 @@ use Rattle.tracer.specs.Input.{words_of}
 use Rattle.trace.proofs.print_cycles.Given as goal
 
 abbrev pub invariant-loop-k : goal.invariant-loop-k
-invariant-loop-k g l =
-    (l.k ≤ l.count) × (l.count ≡ length (words_of l.input)) × (l.state ≡ after l.image (fresh_state l.image) (take l.k (words_of l.input)))
-
-abbrev pub decreases-loop-k : goal.decreases-loop-k
-decreases-loop-k g l = l.count - l.k
+invariant-loop-k g l = (l.k ≤ length (words_of l.input)) × (l.state ≡ after l.image (fresh_state l.image) (take l.k (words_of l.input)))

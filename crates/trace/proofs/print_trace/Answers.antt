@@ -3,5 +3,4 @@ use Rattle.tracer.specs.StepsLaws.{closing_taken}
 use Rattle.trace.proofs.print_trace.Goals as goal
 
 pub closing_line-requires : goal.closing_line-requires
-closing_line-requires g c =
-    rw (c.print_cycles-printed.ensures c.if-printed.true, c.requires.image_value) (closing_taken c.args.input.now c.requires.input_value)
+closing_line-requires g c = rw (c.in_ok-state.ensures, c.requires.image_value) (closing_taken c.args.input.now c.requires.input_value)

@@ -1,14 +1,14 @@
 -- `trace::trace` meets its contract. Assumes nothing.
-use mathlib.Core.Path.{sym, ◌∙◌}
+use mathlib.Core.Path.{sym}
 use Rattle.tracer.specs.Head.{head_whole}
 use Rattle.tracer.specs.InputLaws.{image_taken}
 use Rattle.trace.proofs.trace.Goals as goal
 
 pub print_trace-requires-clause-image_value : goal.print_trace-requires-clause-image_value
-print_trace-requires-clause-image_value g c = rw c.image_length-image.ensures.value (image_taken c.args.input.now)
+print_trace-requires-clause-image_value g c = rw c.image_length.ensures.value (image_taken c.args.input.now)
 
 pub print_trace-requires-clause-input_value : goal.print_trace-requires-clause-input_value
 print_trace-requires-clause-input_value g c =
     let a = c.args in
-    let n = sym c.input_number-number.ensures ∙ c.if-number-ne0.false in
+    let n = sym c.in-Ok.ensures in
     rw (head_whole a.input.now a.size c.requires n) at n
