@@ -2,6 +2,7 @@
 -- after it. Each contract ensures its record as it stands here. They are the answers of the crates below, on the state or the records that bytes are.
 use Rattle.std.specs.Prelude.{Bool, not, ◌≡◌, ℕ, eqb, ltb, ℤ, length, drop}
 use mathlib.Core.List.{List, ◌++◌, flat_map}
+use Rattle.std.specs.Bool.{then_some}
 use Rattle.laws.specs.Choice.{◌if◌else◌}
 use Rattle.netlist.specs.Judge.{judge}
 use Rattle.relay.specs.declared.Station.{Station}
@@ -68,5 +69,5 @@ pub record TextCall (text out : List ℕ) (number long : ℕ) (out_left : List �
 pub record BenchCall
     (row : List Station) (bytes : List ℕ) (valid : Bool) (value : ℤ) (stop : Bool) (number letter : ℕ) (shown : ℤ) (taken : Bool) (left : List ℕ)
     : Type 0 where
-  pub answered : record { number = number; letter = letter; value = shown; taken = taken } ≡ bench_answer row valid value stop
-  pub changed : left ≡ (flat_map station_bytes (bench_after row valid value stop) if eqb number 0 else bytes)
+  pub answered : record { number = number; letter = letter; value = shown; taken = taken } ≡ bench_answer row (then_some valid value) stop
+  pub changed : left ≡ (flat_map station_bytes (bench_after row (then_some valid value) stop) if eqb number 0 else bytes)

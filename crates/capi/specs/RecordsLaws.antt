@@ -15,21 +15,20 @@ use Rattle.laws.specs.TableLaws.{length-table, table_at, take-table, table_own}
 use Rattle.relay.specs.declared.Row.{Row}
 use Rattle.relay.specs.declared.Station.{Station}
 use Rattle.relay.specs.RowCycle.{no_station}
-use Rattle.bench.specs.declared.Answer.{Answer}
-use Rattle.bench.specs.declared.RowBenched.{RowBenched}
-use Rattle.bench.specs.declared.StationBenched.{StationBenched}
-use Rattle.bench.specs.Bench.{fits, bench_number, refusal, reply, bench_answer, bench_after}
+use Rattle.relay.specs.Link.{Link}
+use Rattle.std.specs.Bool.{then_some}
+use Rattle.bench.specs.Bench.{Told, fits, bench_number, refusal, reply, bench_answer, bench_after}
 use Rattle.bench.proofs.BenchLaws.{bench_long, length_bench, station-done}
-use Rattle.bench.specs.ByValue.{station_benched, row_benched}
+use Rattle.bench.specs.ByValue.{BenchedTold, station_benched, row_benched}
 use Rattle.bench.proofs.Kept.{accepted_long, accepted-fits}
 use Rattle.capi.specs.Bytes.{each, station_bytes, no_record, record_in, row_record, record_count, row_in}
 use Rattle.capi.specs.BytesLaws.{all_stored}
 use Rattle.capi.specs.Calls.{BenchCall}
 
 -- a bench answers its number
-answer-number : (row : List Station) (valid : Bool) (value : ℤ) (stop : Bool) → (bench_answer row valid value stop).number ≡ bench_number row
+answer-number : (row : List Station) (link : Link) (stop : Bool) → (bench_answer row link stop).number ≡ bench_number row
 unfolding bench_answer reply refusal
-answer-number row valid value stop =
+answer-number row link stop =
     ⊎_elim
     (λ (q : eqb (bench_number row) 0 ≡ true). rw q (sym (eqb-true (bench_number row) 0 q)))
     (λ (q : eqb (bench_number row) 0 ≡ false). rw q)
@@ -44,24 +43,31 @@ no_record-fits = refl
 pub first_own : {A : Type 0} (l : List A) (d : A) (n : ℕ) → n ≤ length l → table (λ i. get_or l i d) n ≡ take n l
 first_own l d n h = sym (take-table (λ i. get_or l i d) n (length l) h) ∙ ap (take n) (sym (table_own l d))
 
+-- what C is told of a call
+pub told_call :
+    (row : List Station) (bytes : List ℕ) (valid : Bool) (value : ℤ) (stop : Bool) (left : List ℕ) {t u : Told} → u ≡ t
+    → BenchCall row bytes valid value stop t.number t.letter t.value t.taken left
+    → BenchCall row bytes valid value stop u.number u.letter u.value u.taken left
+told_call row bytes valid value stop left e call = rw e call
+
 -- ---- a station
 module _
-    (bytes : List ℕ) (valid : Bool) (value : ℤ) (stop : Bool) {b : StationBenched} (d : b ≡ station_benched (record_in bytes) valid value stop) where
+    (bytes : List ℕ) (valid : Bool) (value : ℤ) (stop : Bool) {b : BenchedTold Station} (d : b ≡ station_benched (record_in bytes) (then_some valid value) stop) where
   abbrev row : List Station
   row = record_in bytes ∷ []
 
-  answered : b.answer ≡ bench_answer row valid value stop
-  answered = ap (λ (x : StationBenched). x.answer) d ∙ (station-done (record_in bytes) valid value stop).answered
+  answered : b.answer ≡ bench_answer row (then_some valid value) stop
+  answered = ap (λ (x : BenchedTold Station). x.answer) d ∙ (station-done (record_in bytes) (then_some valid value) stop).answered
 
-  after : b.station ∷ [] ≡ bench_after row valid value stop
-  after = ap (λ (x : StationBenched). x.station ∷ []) d ∙ (station-done (record_in bytes) valid value stop).left
+  after : b.after ∷ [] ≡ bench_after row (then_some valid value) stop
+  after = ap (λ (x : BenchedTold Station). x.after ∷ []) d ∙ (station-done (record_in bytes) (then_some valid value) stop).left
 
   pub record_sized : b.answer.number ≡ 0 → length bytes ≡ 9
   unfolding record_in
   record_sized z = at (ℕ_discrete (length bytes) 9)
     where
       number : bench_number row ≡ 0
-      number = sym (answer-number row valid value stop) ∙ sym (ap (λ (x : Answer). x.number) answered) ∙ z
+      number = sym (answer-number row (then_some valid value) stop) ∙ sym (ap (λ (x : Told). x.number) answered) ∙ z
 
       at : Dec (length bytes ≡ 9) → length bytes ≡ 9
       at (yes e) = e
@@ -70,12 +76,12 @@ module _
           absurd (true≢false (sym (rw (ne_eqb (length bytes) 9 n) at f) ∙ no_record-fits))
 
   pub station-called :
-      {left : List ℕ} → b.answer.number ≡ 0 → left ≡ station_bytes b.station ++ drop 9 bytes
+      {left : List ℕ} → b.answer.number ≡ 0 → left ≡ station_bytes b.after ++ drop 9 bytes
       → BenchCall row bytes valid value stop b.answer.number b.answer.letter b.answer.value b.answer.taken left
   unfolding flat_map
   station-called z e =
-      let s = all_stored bytes (station_bytes b.station) 9 (omega (arith, record_sized z)) e in
-      record { answered = answered; changed = s ∙ rw (z, ← after) (sym (append-nil (station_bytes b.station))) }
+      let s = all_stored bytes (station_bytes b.after) 9 (omega (arith, record_sized z)) e in
+      record { answered = answered; changed = s ∙ rw (z, ← after) (sym (append-nil (station_bytes b.after))) }
 
   pub station_refused :
       (b.answer.number ≡ 0 → ⊥) → BenchCall row bytes valid value stop b.answer.number b.answer.letter b.answer.value
@@ -117,7 +123,7 @@ module _
     (bytes : List ℕ) (row : Row)
     (r : record_count bytes ≤ 8 → take (record_count bytes) row.stations ≡ table (row_record bytes) (record_count bytes)) (valid : Bool) (value : ℤ)
     (stop : Bool)
-    {b : RowBenched} (d : b ≡ row_benched row (record_count bytes) valid value stop) where
+    {b : BenchedTold Row} (d : b ≡ row_benched row (record_count bytes) (then_some valid value) stop) where
   abbrev n : ℕ
   n = record_count bytes
 
@@ -125,43 +131,43 @@ module _
   unfolding row_in
   first_few h = r h
 
-  row-answered : b.answer ≡ bench_answer (row_in bytes) valid value stop
+  row-answered : b.answer ≡ bench_answer (row_in bytes) (then_some valid value) stop
   unfolding row_benched
   row-answered =
       ⊎_elim
       (λ (h : 8 < n).
-      ap (λ (x : RowBenched). x.answer) d ∙ rw (lt-ltb 8 n h) (bench_long (row_in bytes) valid value stop (rw (length-row bytes) h)).answered)
-      (λ (h : n ≤ 8). ap (λ (x : RowBenched). x.answer) d ∙ rw (le-ltb 8 n h, first_few h))
+      ap (λ (x : BenchedTold Row). x.answer) d ∙ rw (lt-ltb 8 n h) (bench_long (row_in bytes) (then_some valid value) stop (rw (length-row bytes) h)).answered)
+      (λ (h : n ≤ 8). ap (λ (x : BenchedTold Row). x.answer) d ∙ rw (le-ltb 8 n h, first_few h))
       (lt-or-ge 8 n)
 
   module _ (z : b.answer.number ≡ 0) where
     accepted-row : bench_number (row_in bytes) ≡ 0
-    accepted-row = sym (answer-number (row_in bytes) valid value stop) ∙ sym (ap (λ (x : Answer). x.number) row-answered) ∙ z
+    accepted-row = sym (answer-number (row_in bytes) (then_some valid value) stop) ∙ sym (ap (λ (x : Told). x.number) row-answered) ∙ z
 
     pub row_sized : (n ≤ 8) × (9 * n ≤ length bytes)
     row_sized = ((row_few bytes accepted-row).1, omega (arith, row-whole bytes accepted-row))
 
     -- the first n records are the row after the bench
     abbrev after-row : List Station
-    after-row = bench_after (row_in bytes) valid value stop
+    after-row = bench_after (row_in bytes) (then_some valid value) stop
 
-    stations-after : b.row.stations ≡ after-row ++ drop n row.stations
+    stations-after : b.after.stations ≡ after-row ++ drop n row.stations
     unfolding row_benched
-    stations-after = ap (λ (x : RowBenched). x.row.stations) d ∙ rw (le-ltb 8 n row_sized.0, first_few row_sized.0)
+    stations-after = ap (λ (x : BenchedTold Row). x.after.stations) d ∙ rw (le-ltb 8 n row_sized.0, first_few row_sized.0)
 
     after_long : length after-row ≡ n
-    after_long = length_bench (row_in bytes) valid value stop ∙ length-row bytes
+    after_long = length_bench (row_in bytes) (then_some valid value) stop ∙ length-row bytes
 
-    records-after : table (λ i. get_or b.row.stations i no_station) n ≡ after-row
+    records-after : table (λ i. get_or b.after.stations i no_station) n ≡ after-row
     records-after =
-        first_own b.row.stations no_station n (rw (stations-after, length-append, after_long) (omega arith))
+        first_own b.after.stations no_station n (rw (stations-after, length-append, after_long) (omega arith))
         ∙ rw stations-after (take_at after-row (drop n row.stations) n after_long)
 
     pub row-called :
-        {left : List ℕ} → left ≡ each station_bytes (λ i. get_or b.row.stations i no_station) n ++ drop (9 * n) bytes
+        {left : List ℕ} → left ≡ each station_bytes (λ i. get_or b.after.stations i no_station) n ++ drop (9 * n) bytes
         → BenchCall (row_in bytes) bytes valid value stop b.answer.number b.answer.letter b.answer.value b.answer.taken left
     row-called e =
-        let g : ℕ → Station = λ i. get_or b.row.stations i no_station in
+        let g : ℕ → Station = λ i. get_or b.after.stations i no_station in
         let s = all_stored bytes (each station_bytes g n) (9 * n) (omega (arith, row-whole bytes accepted-row)) e in
         record { answered = row-answered; changed = s ∙ rw z (ap (flat_map station_bytes) records-after) }
 

@@ -14,10 +14,12 @@ ghost use Rattle.netlist.specs.Judge.{judge};
 ghost use Rattle.refusal.specs.Number.{number_of, number_if};
 ghost use Rattle.strict.specs.Answer.{strict_number, strict_written};
 ghost use Rattle.state.specs.Told.{told};
+ghost use Rattle.bench.specs.Bench.{told as bench_told};
 ghost use Rattle.text.specs.Trace.{header};
 ghost use Rattle.capi.specs.Bytes.{record_in, row_in};
 ghost use Rattle.capi.specs.Calls.{FreshCall, StepCall, RunCall, LineCall, ClosingCall, TextCall, BenchCall};
 
+use bench::Answer;
 use refusal::Refusal;
 use state::{Refused, State};
 use text::Text;
@@ -177,6 +179,28 @@ pub fn channel_bench_closing_line(
     }
 }
 
+// What a bench answers, as C is told it: the number is answered and the rest stored. A bench that is refused
+// tells 0, 0 and no.
+#[tactic(auto, unfolding(bench::specs::Bench::refusal))]
+fn tell(answer: Result<Answer, Refusal>, letter: &mut u8, shown: &mut i32, taken: &mut bool) -> u8
+    ensures { record { number = result; letter = letter.new; value = shown.new; taken = taken.new } ≡ bench_told answer }
+{
+    match answer {
+        Ok(answer) => {
+            *letter = answer.letter;
+            *shown = answer.value;
+            *taken = answer.taken;
+            0
+        }
+        Err(refusal) => {
+            *letter = 0;
+            *shown = 0;
+            *taken = false;
+            refusal.number()
+        }
+    }
+}
+
 // One cycle of a station on its own, changed in place.
 pub fn channel_bench_station(
     station: &mut [u8],
@@ -189,16 +213,13 @@ pub fn channel_bench_station(
 ) -> u8
     ensures { BenchCall (record_in station.old ∷ []) station.old valid value stop result letter.new shown.new taken.new station.new }
 {
-    let benched = bench::steps::station_step(read::record_in(station), valid, value, stop);
-    let answer = benched.answer;
-    let leaving = answer.value;
-    *letter = answer.letter;
-    *shown = leaving;
-    *taken = answer.taken;
-    if answer.number == 0 {
-        write::Stations::put(benched.station, station, 0);
+    let link = valid.then_some(value);
+    let benched = bench::steps::station_step(read::record_in(station), link, stop);
+    let number = tell(benched.answer, letter, shown, taken);
+    if number == 0 {
+        write::Stations::put(benched.after, station, 0);
     }
-    answer.number
+    number
 }
 
 // One cycle of a row of stations on its own, changed in place.
@@ -214,14 +235,11 @@ pub fn channel_bench_row(
     ensures { BenchCall (row_in row.old) row.old valid value stop result letter.new shown.new taken.new row.new }
 {
     let count = read::record_count(row);
-    let benched = bench::steps::row_step(read::row_in(row, count), count, valid, value, stop);
-    let answer = benched.answer;
-    let leaving = answer.value;
-    *letter = answer.letter;
-    *shown = leaving;
-    *taken = answer.taken;
-    if answer.number == 0 {
-        write::put_row(benched.row, count, row);
+    let link = valid.then_some(value);
+    let benched = bench::steps::row_step(read::row_in(row, count), count, link, stop);
+    let number = tell(benched.answer, letter, shown, taken);
+    if number == 0 {
+        write::put_row(benched.after, count, row);
     }
-    answer.number
+    number
 }

@@ -1,32 +1,51 @@
 -- `capi::channel_bench_station` meets its contract. Assumes nothing.
-use native.Mathlib.Omega.{arith}
-use borrow.Author.Rules.{rules}
-use mir.Syntax.{w32}
-use mir.Val.{SFits}
-use mir.Facts.{to_z-of_z}
+use Rattle.std.proofs.Common.{◌≡◌, Bool, ℕ, ℤ, sym, ap, ◌∙◌, arith}
+use Rattle.std.proofs.Math.Facts.{to_z-of_z}
+use Rattle.std.specs.Bool.{then_some}
+use Rattle.bench.specs.Bench.{Told, told}
+use Rattle.bench.specs.ByValue.{BenchedTold, benched_told, station_benched}
+use Rattle.relay.specs.declared.Station.{Station}
 use Rattle.text.specs.PutLaws.{put_front}
+use Rattle.capi.specs.Bytes.{record_in}
 use Rattle.capi.specs.BytesLaws.{station_long}
-use Rattle.capi.specs.RecordsLaws.{record_sized, station-called, station_refused}
+use Rattle.capi.specs.RecordsLaws.{told_call, record_sized, station-called, station_refused}
+use Rattle.capi.proofs.channel_bench_station.Goals.{After-tell-number}
 use Rattle.capi.proofs.channel_bench_station.Goals as goal
+
+benched : (c : After-tell-number) → BenchedTold Station
+benched c = benched_told c.station_step-benched.result
+
+done : (c : After-tell-number) → benched c ≡ station_benched (record_in c.args.station.now) (then_some c.args.valid c.args.value) c.args.stop
+unfolding benched
+done c =
+    let link = c.then_some-link.ensures ∙ ap (λ (v : ℤ). then_some c.args.valid v) (to_z-of_z c.ranges.value) in
+    rw (c.record_in.ensures, link) at c.station_step-benched.ensures
+
+number : (c : After-tell-number) → c.tell-number.result ≡ (benched c).answer.number
+unfolding benched
+number c = ap (λ (t : Told). t.number) c.tell-number.ensures
 
 pub put-requires : goal.put-requires
 put-requires c =
     let a = c.args in
-    let done = rw (c.record_in.ensures, to_z-of_z c.ranges.value) at c.station_step-benched.ensures in
-    omega (arith, record_sized a.station.now a.valid a.value a.stop done c.if-answer-eq0.true, station_long c.station_step-benched.result.station)
+    let d = (goal.at.put-requires c).After-tell-number in
+    omega (arith, record_sized a.station.now a.valid a.value a.stop (done d) (sym (number d) ∙ c.if-number-eq0.true), station_long c.station_step-benched.result.after)
 
-pub returns-then-answer-eq0 : goal.returns-then-answer-eq0
-returns-then-answer-eq0 c =
+pub returns-then-number-eq0 : goal.returns-then-number-eq0
+unfolding benched
+returns-then-number-eq0 c =
     let a = c.args in
-    let done = rw (c.record_in.ensures, to_z-of_z c.ranges.value) at c.station_step-benched.ensures in
-    let long = record_sized a.station.now a.valid a.value a.stop done c.if-answer-eq0.true in
+    let d = (goal.at.returns-then-number-eq0 c).After-tell-number in
+    let z = sym (number d) ∙ c.if-number-eq0.true in
+    let long = record_sized a.station.now a.valid a.value a.stop (done d) z in
     let front = put_front (rw station_long (omega (arith, long))) c.put.ensures in
-    let f : SFits w32 c.station_step-benched.result.answer.value = search rules in
-    rw (to_z-of_z f) (station-called a.station.now a.valid a.value a.stop done c.if-answer-eq0.true (rw station_long at front))
+    told_call _ a.station.now a.valid a.value a.stop _ c.tell-number.ensures
+    (station-called a.station.now a.valid a.value a.stop (done d) z (rw station_long at front))
 
-pub returns-else-answer-eq0 : goal.returns-else-answer-eq0
-returns-else-answer-eq0 c =
+pub returns-else-number-eq0 : goal.returns-else-number-eq0
+unfolding benched
+returns-else-number-eq0 c =
     let a = c.args in
-    let done = rw (c.record_in.ensures, to_z-of_z c.ranges.value) at c.station_step-benched.ensures in
-    let f : SFits w32 c.station_step-benched.result.answer.value = search rules in
-    rw (to_z-of_z f) (station_refused a.station.now a.valid a.value a.stop done c.if-answer-eq0.false)
+    let d = (goal.at.returns-else-number-eq0 c).After-tell-number in
+    told_call _ a.station.now a.valid a.value a.stop _ c.tell-number.ensures
+    (station_refused a.station.now a.valid a.value a.stop (done d) (λ z. c.if-number-eq0.false (number d ∙ z)))
