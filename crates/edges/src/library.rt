@@ -45,7 +45,8 @@ pub(crate) fn put_held(state: &mut State, c: usize, held: Held) {
 
 // ---- calls on an image
 
-// A call's number, 0 if it is not refused, and the state after it.
+// A call's number, 0 if it is not refused, and the state after it. No `Result`: number and state are compared whatever
+// the number is.
 #[derive(Clone, Copy)]
 pub(crate) struct Answer {
     pub number: u8,
@@ -152,8 +153,8 @@ pub(crate) fn strict(
 
 // ---- benches
 
-// What comes to a row in a cycle, and whether the link that leaves it is stopped. The value beside a void
-// link is for nobody to look at.
+// What comes to a row in a cycle, and whether the link that leaves it is stopped. No `Option`: a void link has a value
+// beside it that nobody may look at.
 #[derive(Clone, Copy)]
 pub(crate) struct Coming {
     pub valid: bool,
@@ -161,7 +162,7 @@ pub(crate) struct Coming {
     pub stop: bool,
 }
 
-// What a bench answers.
+// What a bench answers. No `Result`: all four fields are compared whatever the number is.
 #[derive(Clone, Copy)]
 pub(crate) struct Benched {
     pub number: u8,

@@ -88,6 +88,7 @@ impl<'a, P: Print> Bench<'a, P> {
         }
     }
 
+    // No `zip`: the arrays may differ in length, and what one has beyond the other is printed too.
     fn print_places(self, letters: &[u8], values: &[i32]) -> io::Result<()> {
         for i in 0..letters.len().max(values.len()) {
             self.print_place(letters.get(i), values.get(i))?;
@@ -186,7 +187,8 @@ fn at_cycle(state: State, cycles: u32) -> State {
     State { cycles, ..state }
 }
 
-// The same state but for node 0, channel 0's mark, its first station, or its queue.
+// The same state but for node 0, channel 0's mark, its first station, or its queue. No closure: each is one line
+// that says which field.
 fn with_firings(mut state: State, firings: u32) -> State {
     state.nodes[0].firings = firings;
     state

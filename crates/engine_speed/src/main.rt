@@ -80,6 +80,7 @@ impl Checksum {
     }
 }
 
+// No `sum`: it asks that the sum fits, and that did not prove.
 fn firings(state: &State) -> u64 {
     let mut firings = 0;
     for node in &state.nodes {

@@ -63,6 +63,7 @@ pub fn read_to_end<R: io::Read>(reader: &mut R, buffer: &mut [u8]) -> Result<Inp
     ensures ok { IfOk result (λ input. Read input buffer.new) }
     ensures err { IfErr result (λ unread. Read unread.before buffer.new) }
 {
+    // No `for`: it goes on by as much as a read brings.
     let mut kept: usize = 0;
     while kept < buffer.len() {
         let before = Input {
