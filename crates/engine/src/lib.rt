@@ -110,6 +110,8 @@ fn words_taken(nodes: u8, cycles: u32, words: &[u64]) -> Taken
 // in the first places of `letters` and `values`. A refused step hands back the state that it was handed,
 // and writes nothing. It is refused by the judge, then for 21, 22, 12 and 13. Letters and values are two
 // lent arrays, as C lends them.
+// Where this is inlined LLVM takes the states apart into single numbers, and builds for minutes.
+#[inline(never)]
 pub fn step(
     image: &[u8],
     state: State,
