@@ -138,7 +138,11 @@ pub fn cycle_line(image: &[u8], state: State, word: u64, out: &mut [u8]) -> Resu
 {
     let mut letters = [0u8; 96];
     let mut values = [0i32; 96];
-    let after = engine::step(image, state, word, &mut letters, &mut values)?;
+    // And so it does where a state is handed on by `?`.
+    let after = match engine::step(image, state, word, &mut letters, &mut values) {
+        Ok(after) => after,
+        Err(refused) => return Err(refused),
+    };
     let channels = netlist::channels(image) as usize;
     let row = readings(&letters, &values);
     match text::cycle_line(state.cycles, &row[..channels], out) {
