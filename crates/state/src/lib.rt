@@ -31,11 +31,13 @@ pub struct State {
     pub queues: [Queue; 96],
 }
 
-// What a refused call hands back: why it was refused, and a state, the one that it was handed or zeros.
+// What a refused call hands back: a state, the one that it was handed or zeros, and why it was refused. The
+// state comes first here and wherever one is answered: where it lies at two places of the two arms of a
+// `Result`, LLVM takes it apart number by number and builds for minutes.
 #[derive(Clone, Copy)]
 pub struct Refused {
-    pub refusal: Refusal,
     pub state: State,
+    pub refusal: Refusal,
 }
 
 impl State {

@@ -20,11 +20,11 @@ use relay::Reading;
 use state::{Refused, State};
 use std::array;
 
-// A cycle's line: how long it is, and the state after the cycle.
+// A cycle's line: the state after the cycle, and how long the line is.
 #[derive(Clone, Copy)]
 pub struct Lined {
-    pub length: usize,
     pub state: State,
+    pub length: usize,
 }
 
 // The most words that the program traces.
