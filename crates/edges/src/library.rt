@@ -204,9 +204,11 @@ pub(crate) type Records = [Station; 9];
 
 // The bench of the first so many of them, which are changed.
 pub(crate) fn bench_row(records: &mut Records, length: usize, coming: Coming) -> Benched {
-    let lent = bench::Records { stations: *records };
+    let stations = *records;
     let link = coming.valid.then_some(coming.value);
-    let trial = bench::row_trial(lent, length, link, coming.stop);
-    *records = trial.after.stations;
+    let trial = bench::row_trial(bench::Records { stations }, length, link, coming.stop);
+    let after = trial.after;
+    let stations = after.stations;
+    *records = stations;
     Benched::from(trial.answer)
 }
