@@ -1,7 +1,10 @@
 -- Laws of what is said of all numbers below n. Assumes nothing.
-use Rattle.std.specs.Prelude.{◌≡◌, refl, ◌↔◌, Bool, true, false, not, ℕ, zero, suc, ◌<◌, ◌≤◌}
+use Rattle.std.specs.Prelude.{◌≡◌, refl, ◌↔◌, Bool, true, false, not, ℕ, zero, suc, ◌+◌, ◌<◌, ◌≤◌}
 use Rattle.std.proofs.Common.{sym, ap, ◌∙◌, ⊎_elim, not-suc-le-zero, arith}
-use Rattle.std.proofs.Math.Bool.{or-true, or-false, not-not}
+use mathlib.Core.List.{List, [], ◌∷◌, ◌++◌}
+use Rattle.std.specs.List.{list_any, list_all, range_with_len}
+use Rattle.std.proofs.lemmas.List.Folds.{list_any-append, list_all-append}
+use Rattle.std.proofs.Math.Bool.{or-true, or-false, and-true, not-not}
 use Rattle.std.proofs.lemmas.Bool.{false≢true, not-true, not-false}
 use Rattle.laws.specs.Choice.{◌if◌else◌}
 use Rattle.laws.specs.Below.{all_below, any_below, sum_below, most_below, pick_below}
@@ -144,3 +147,23 @@ pick_any test (suc n) =
     (λ (e : test n ≡ true). rw (e, or-true))
     (λ (e : test n ≡ false). rw (e, or-false) (pick_any test n))
     (true_or_false (test n))
+
+-- ---- the numbers below n as the list that a range yields
+
+numbers_next : (a n last : ℕ) → a + n ≡ last → range_with_len a (suc n) ≡ range_with_len a n ++ (last ∷ [])
+numbers_next a zero last e = ap (λ (k : ℕ). k ∷ []) (omega (arith, e))
+numbers_next a (suc n) last e = ap (λ (l : List ℕ). a ∷ l) (numbers_next (a + 1) n last (omega (arith, e)))
+
+-- whether the test holds at one of them
+pub any_range : (f : ℕ → Bool) (n : ℕ) → list_any f (range_with_len 0 n) ≡ any_below f n
+unfolding any_below
+any_range f zero = refl
+any_range f (suc n) =
+    ap (list_any f) (numbers_next 0 n n (omega arith)) ∙ rw (list_any-append, any_range f n, or-false)
+
+-- whether it holds at all of them
+pub all_range : (f : ℕ → Bool) (n : ℕ) → list_all f (range_with_len 0 n) ≡ all_below f n
+unfolding all_below
+all_range f zero = refl
+all_range f (suc n) =
+    ap (list_all f) (numbers_next 0 n n (omega arith)) ∙ rw (list_all-append, all_range f n, and-true)
