@@ -1,34 +1,17 @@
--- What the judge's passes hold after c channels: the equations that its loops keep.
-use Rattle.std.specs.Prelude.{Bool, true, false, not, List, ◌≡◌, ℕ, ◌*◌, ◌≤◌, ltb, get_or}
+-- What the judge's passes look at: the chain's last links, and what the channels below c mark.
+use Rattle.std.specs.Prelude.{Bool, true, false, not, List, ℕ, ltb, get_or}
 use Rattle.laws.specs.Below.{any_below, sum_below}
 use Rattle.laws.specs.Choice.{◌if◌else◌}
-use Rattle.netlist.specs.declared.passes.Found.{Found}
-use Rattle.netlist.specs.Image.{kind, to, port, stations, inputs}
-use Rattle.netlist.specs.Judge.{bad_wire, bad_port, bad_stations, bad_depth}
+use Rattle.netlist.specs.Image.{channels, kind, to, port, stations, inputs}
+use Rattle.netlist.specs.Judge.{bad_stations, bad_depth}
 use Rattle.netlist.specs.Ports.{port_place, ports_below}
 
--- numbers 5, 6, 9, 10 and the sum for 11, over the channels below c
-unfoldable pub found_below : List ℕ → ℕ → Found
-found_below img c =
-    record {
-      wire = any_below (bad_wire img) c;
-      port = any_below (bad_port img) c;
-      stations = any_below (bad_stations img) c;
-      depth = any_below (bad_depth img) c;
-      total = sum_below (stations img) c;
-    }
-
--- such a record, with a bound for its sum
-pub record Passed (img : List ℕ) (c : ℕ) (found : Found) : Type 0 where
-  pub is : found ≡ found_below img c
-  pub bound : found.total ≤ 255 * c
-
--- numbers 9 to 11 of what was found of all channels
-unfoldable pub depth_number : Found → ℕ
-depth_number found =
-    9 if found.stations else
-    10 if found.depth else
-    11 if ltb 256 found.total else
+-- numbers 9 to 11
+unfoldable pub depth_number : List ℕ → ℕ
+depth_number img =
+    9 if any_below (bad_stations img) (channels img) else
+    10 if any_below (bad_depth img) (channels img) else
+    11 if ltb 256 (sum_below (stations img) (channels img)) else
     0
 
 -- the marks of the ports that the channels below c feed

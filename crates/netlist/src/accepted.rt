@@ -15,7 +15,6 @@ pub struct Netlist<'a> {
 
 impl<'a> Netlist<'a> {
     ghost use Rattle.std.specs.Prelude.{◌≤◌, ◌<◌, IfOk};
-    ghost use Rattle.netlist.specs.Accepted.{Accepted};
     ghost use Rattle.netlist.specs.Image.{nodes, channels};
     ghost use Rattle.netlist.specs.Readers.{core_at, channel_at, Placed};
 
@@ -26,15 +25,6 @@ impl<'a> Netlist<'a> {
     {
         crate::judge(image)?;
         Ok(Netlist { image })
-    }
-
-    // An image that is known to be accepted.
-    #[tactic(auto, using(crate::specs::AcceptedLaws::accepts))]
-    pub fn accepted(image: &'a [u8]) -> Netlist<'a>
-        requires { Accepted image.now }
-        ensures { result.image ≡ image.entry }
-    {
-        Netlist { image }
     }
 
     // N.

@@ -15,7 +15,8 @@ ghost use Rattle.netlist.specs.Readers.{core_at, channel_at};
 pub use accepted::Netlist;
 use refusal::Refusal;
 
-// A node's fields. Kinds are 1 to 9 in an accepted image.
+// A node's fields. The kind is a number, 1 to 9 in an accepted image: one that the judge has not looked at may
+// be no kind.
 #[derive(Clone, Copy)]
 pub struct Core {
     pub kind: u8,
@@ -119,6 +120,7 @@ pub fn channel_at(image: &[u8], c: u8) -> Channel
     }
 }
 
+// By number, 0 for what is no kind: the judge asks before it knows that a kind is one, and needs no pearls.
 const INPUTS: [u8; 10] = [0, 0, 1, 1, 1, 1, 2, 2, 2, 3];
 
 // How many inputs a node of a kind has, 0 for a number that is no kind.

@@ -1,77 +1,47 @@
-// The judge's passes over an image whose length fits its sizes. Each goes over all nodes or all
-// channels once, so that a number is settled for the whole image before the next is looked at.
-ghost use Rattle.std.specs.Prelude.{◌≡◌, ◌+◌, ◌<◌, ◌≤◌, IfOk};
-ghost use Rattle.laws.specs.Below.{any_below};
+// The judge's tests of an image whose length fits its sizes. Each is settled over all nodes or all channels
+// before the next is looked at. They ask for nothing: what lies past the image's end is 0.
+ghost use Rattle.std.specs.Prelude.{◌≡◌, IfOk};
+ghost use Rattle.laws.specs.Below.{any_below, sum_below};
 ghost use Rattle.laws.specs.Choice.{◌if◌else◌};
 ghost use Rattle.refusal.specs.Number.{number_of};
-ghost use Rattle.netlist.specs.Image.{nodes, channels};
-ghost use Rattle.netlist.specs.Judge.{bad_kind, judge};
+ghost use Rattle.netlist.specs.Image.{channels, stations};
+ghost use Rattle.netlist.specs.Judge.{bad_kind, bad_wire, bad_port, bad_stations, bad_depth, judge};
 ghost use Rattle.netlist.specs.Ports.{Wired};
 ghost use Rattle.netlist.specs.Clear.{Sized};
-ghost use Rattle.netlist.specs.Passes.{found_below, Passed, depth_number, marks_below, twice_below, misses};
+ghost use Rattle.netlist.specs.Passes.{depth_number, marks_below, twice_below, misses};
 
 use crate::{channel_at, channels, inputs, kind_at, nodes};
 use refusal::Refusal;
 
-// What a pass over the channels finds: whether number 5, 6, 9 or 10 has a cause, and all stations.
-#[derive(Clone, Copy)]
-pub struct Found {
-    pub wire: bool,
-    pub port: bool,
-    pub stations: bool,
-    pub depth: bool,
-    pub total: u32,
-}
-
-// Number 4: whether a kind is not 1 to 9.
-fn scan_kinds(image: &[u8]) -> bool
-    ensures { result ≡ any_below (bad_kind image.now) (nodes image.now) }
+// Number 4, of node n.
+#[tactic(auto, unfolding(crate::specs::Judge::bad_kind))]
+fn bad_kind(image: &[u8], n: u8) -> bool
+    ensures { result ≡ bad_kind image.now n }
 {
-    let n = nodes(image);
-    let mut bad = false;
-    for i in 0..n {
-        let k = kind_at(image, i);
-        bad = bad | ((k < 1) | (9 < k));
-    }
-    bad
+    let kind = kind_at(image, n);
+    (kind < 1) | (9 < kind)
 }
 
-// What is found once channel c is looked at too.
-fn scan_channel(found: Found, image: &[u8], c: u8) -> Found
-    requires { Passed image.now c found }
-    ensures { Passed image.now (c + 1) result }
+// Number 5, of channel c.
+#[tactic(auto, unfolding(crate::specs::Judge::bad_wire, crate::specs::Readers::channel_at))]
+fn bad_wire(image: &[u8], c: u8) -> bool
+    ensures { result ≡ bad_wire image.now c }
 {
-    let n = nodes(image);
-    let w = channel_at(image, c);
-    let ports = inputs(kind_at(image, w.to));
-    Found {
-        wire: found.wire | ((n <= w.from) | (n <= w.to)),
-        port: found.port | (ports <= w.port),
-        stations: found.stations | (8 < w.stations),
-        depth: found.depth | ((w.depth < 1) | (8 < w.depth)),
-        total: found.total + w.stations as u32,
-    }
+    let nodes = nodes(image);
+    let channel = channel_at(image, c);
+    (nodes <= channel.from) | (nodes <= channel.to)
 }
 
-// Numbers 5, 6, 9, 10 and 11.
-fn scan_channels(image: &[u8]) -> Found
-    ensures { result ≡ found_below image.now (channels image.now) }
+// Number 6, of channel c.
+#[tactic(auto, unfolding(crate::specs::Judge::bad_port, crate::specs::Readers::channel_at))]
+fn bad_port(image: &[u8], c: u8) -> bool
+    ensures { result ≡ bad_port image.now c }
 {
-    let c = channels(image);
-    let mut found = Found {
-        wire: false,
-        port: false,
-        stations: false,
-        depth: false,
-        total: 0,
-    };
-    for i in 0..c {
-        found = scan_channel(found, image, i);
-    }
-    found
+    let channel = channel_at(image, c);
+    inputs(kind_at(image, channel.to)) <= channel.port
 }
 
-// The ports that are fed, 3 places a node, if none is fed twice: number 7.
+// The ports that are fed, 3 places a node as the definition has them, if none is fed twice: number 7.
 fn feed_ports(image: &[u8]) -> Result<[bool; 192], Refusal>
     requires { Wired image.now (channels image.now) }
     ensures number { number_of result ≡ (7 if twice_below image.now (channels image.now) else 0) }
@@ -90,46 +60,59 @@ fn feed_ports(image: &[u8]) -> Result<[bool; 192], Refusal>
     Ok(ports)
 }
 
-// Whether a port of node n is not among those fed.
+// Number 8, of node n: whether a port of it is not among those fed.
+#[tactic(auto, unfolding(crate::specs::Passes::misses))]
 fn misses_port(image: &[u8], ports: &[bool; 192], n: u8) -> bool
-    requires { n < 64 }
     ensures { result ≡ misses image.now ports.now n }
 {
-    let k = inputs(kind_at(image, n));
-    let at = 3 * n as usize;
-    let mut any = false;
-    for p in 0..k {
-        any = any | !ports[at + p as usize];
-    }
-    any
+    let first = 3 * n as usize;
+    (0..inputs(kind_at(image, n))).any(|p| {
+        !ports.get(first + p as usize).copied().unwrap_or(false)
+    })
 }
 
-// Number 8: whether a node misses a port.
-#[tactic(auto, unfolding(laws::specs::Below::any_below))]
-fn scan_ports(image: &[u8], ports: &[bool; 192]) -> bool
-    requires { nodes image.now ≤ 64 }
-    ensures { result ≡ any_below (misses image.now ports.now) (nodes image.now) }
+// Number 9, of channel c.
+#[tactic(auto, unfolding(crate::specs::Judge::bad_stations, crate::specs::Readers::channel_at))]
+fn bad_stations(image: &[u8], c: u8) -> bool
+    ensures { result ≡ bad_stations image.now c }
 {
-    let n = nodes(image);
-    let mut any = false;
-    for i in 0..n {
-        any = any | misses_port(image, ports, i);
-    }
-    any
+    8 < channel_at(image, c).stations
 }
 
-// Numbers 9 to 11, from what was found of all channels.
+// Number 10, of channel c.
+#[tactic(auto, unfolding(crate::specs::Judge::bad_depth, crate::specs::Readers::channel_at))]
+fn bad_depth(image: &[u8], c: u8) -> bool
+    ensures { result ≡ bad_depth image.now c }
+{
+    let depth = channel_at(image, c).depth;
+    (depth < 1) | (8 < depth)
+}
+
+// The stations on all channels, for number 11. No `sum`: that each addition fits is the loop's invariant.
+#[tactic(auto, unfolding(crate::specs::Readers::channel_at))]
+fn all_stations(image: &[u8]) -> u32
+    ensures { result ≡ sum_below (stations image.now) (channels image.now) }
+{
+    let mut total = 0;
+    for c in 0..channels(image) {
+        total += channel_at(image, c).stations as u32;
+    }
+    total
+}
+
+// Numbers 9 to 11.
 #[tactic(auto, unfolding(crate::specs::Passes::depth_number))]
-fn judge_depths(found: Found) -> Result<(), Refusal>
-    ensures { number_of result ≡ depth_number found }
+fn judge_depths(image: &[u8]) -> Result<(), Refusal>
+    ensures { number_of result ≡ depth_number image.now }
 {
-    if found.stations {
+    let channels = channels(image);
+    if (0..channels).any(|c| bad_stations(image, c)) {
         return Err(Refusal::Stations);
     }
-    if found.depth {
+    if (0..channels).any(|c| bad_depth(image, c)) {
         return Err(Refusal::Depth);
     }
-    if 256 < found.total {
+    if 256 < all_stations(image) {
         return Err(Refusal::Total);
     }
     Ok(())
@@ -140,19 +123,20 @@ pub(crate) fn contents(image: &[u8]) -> Result<(), Refusal>
     requires { Sized image.now }
     ensures { number_of result ≡ judge image.now }
 {
-    if scan_kinds(image) {
+    let nodes = nodes(image);
+    let channels = channels(image);
+    if (0..nodes).any(|n| bad_kind(image, n)) {
         return Err(Refusal::Kind);
     }
-    let found = scan_channels(image);
-    if found.wire {
+    if (0..channels).any(|c| bad_wire(image, c)) {
         return Err(Refusal::Wire);
     }
-    if found.port {
+    if (0..channels).any(|c| bad_port(image, c)) {
         return Err(Refusal::Port);
     }
     let ports = feed_ports(image)?;
-    if scan_ports(image, &ports) {
+    if (0..nodes).any(|n| misses_port(image, &ports, n)) {
         return Err(Refusal::NotFed);
     }
-    judge_depths(found)
+    judge_depths(image)
 }

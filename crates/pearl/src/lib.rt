@@ -55,7 +55,8 @@ impl TryFrom<u8> for Kind {
 impl Kind {
     ghost use Rattle.pearl.specs.Kind.{code};
 
-    // The next value. A port that the kind does not have is not looked at.
+    // The next value. A port that the kind does not have is not looked at. The ports are named, as above, and
+    // no array.
     #[tactic(auto, using(crate::specs::WrapLaws::wrapped), unfolding(crate::specs::Next::next_value, crate::specs::Next::exact, crate::specs::Next::choose))]
     pub fn next(self, s: i32, a: i32, b: i32, c: i32) -> i32
         ensures { result ≡ next_value (code self) s a b c }
@@ -75,7 +76,7 @@ impl Kind {
     }
 }
 
-// The same by the number of a kind.
+// The same by the number of a kind: the project's rules name a match over numbers with a refusal.
 pub fn next_value(kind: u8, s: i32, a: i32, b: i32, c: i32) -> Result<i32, Refusal>
     ensures { result ≡ next kind s a b c }
 {

@@ -11,39 +11,39 @@ use std::fmt;
 #[derive(Clone, Copy, Debug, PartialEq, Eq)]
 pub enum Refusal {
     // An image of under two bytes.
-    Short,
+    Short = 1,
     // N is 0 or over 64, or C is over 96.
-    Sizes,
+    Sizes = 2,
     // The length is not 2 + 5N + 5C.
-    Length,
+    Length = 3,
     // A kind is not 1 to 9.
-    Kind,
+    Kind = 4,
     // A wire names a node that is not there.
-    Wire,
+    Wire = 5,
     // A port is not below the inputs of the node that it is on.
-    Port,
+    Port = 6,
     // A port is fed twice.
-    FedTwice,
+    FedTwice = 7,
     // A port is not fed.
-    NotFed,
+    NotFed = 8,
     // Over 8 stations stand on a channel.
-    Stations,
+    Stations = 9,
     // A queue of depth 0 or over 8.
-    Depth,
+    Depth = 10,
     // Over 256 stations stand in one image.
-    Total,
+    Total = 11,
     // A stall word sets a bit at or above N.
-    Stall,
+    Stall = 12,
     // A lent array is shorter than the result.
-    Room,
+    Room = 13,
     // A strict cycle over 1,000,000, or over 4,096 words for the trace program.
-    Limit,
+    Limit = 14,
     // A row of no records or over 8.
-    Row,
+    Row = 15,
     // The state does not fit the image; on the benches, a record that is none.
-    Misfit,
+    Misfit = 21,
     // The cycle count is 1,000,000.
-    Cycles,
+    Cycles = 22,
 }
 
 impl Refusal {
@@ -51,33 +51,7 @@ impl Refusal {
     pub fn number(self) -> u8
         ensures { result ≡ number self }
     {
-        match self {
-            Refusal::Short => 1,
-            Refusal::Sizes => 2,
-            Refusal::Length => 3,
-            Refusal::Kind => 4,
-            Refusal::Wire => 5,
-            Refusal::Port => 6,
-            Refusal::FedTwice => 7,
-            Refusal::NotFed => 8,
-            Refusal::Stations => 9,
-            Refusal::Depth => 10,
-            Refusal::Total => 11,
-            Refusal::Stall => 12,
-            Refusal::Room => 13,
-            Refusal::Limit => 14,
-            Refusal::Row => 15,
-            Refusal::Misfit => 21,
-            Refusal::Cycles => 22,
-        }
-    }
-}
-
-impl From<Refusal> for u8 {
-    ghost from_gives = { λ refusal n. n ≡ number refusal };
-
-    fn from(refusal: Refusal) -> u8 {
-        refusal.number()
+        self as u8
     }
 }
 

@@ -20,13 +20,15 @@ pub struct Reading {
 }
 
 // A relay station: its tokens from the first place on, oldest first. A place that holds none is 0.
+// The project's rules name this form: an array of two and a count.
 #[derive(Clone, Copy)]
 pub struct Station {
     pub tokens: [i32; 2],
     pub count: u8,
 }
 
-// A row of stations, the first nearest to the from node.
+// A row of stations, the first nearest to the from node. Its length stands beside it and not in it: a field
+// that is eight at most would ask of callers what `cycle` does not ask.
 #[derive(Clone, Copy)]
 pub struct Row {
     pub stations: [Station; 8],
@@ -64,7 +66,7 @@ impl Station {
     // How many tokens a station has places for.
     pub const DEPTH: u8 = 2;
 
-    // A station that holds no token; below it, those that hold one and two.
+    // A station that holds no token; below it, those that hold one and two. `default()` would say less.
     #[tactic(auto, unfolding(crate::specs::Station::station_of, laws::specs::Lists::padded))]
     pub fn empty() -> Self
         ensures { result ≡ station_of [] }
@@ -114,7 +116,7 @@ impl Station {
         Station::DEPTH <= self.count
     }
 
-    // Whether every place that holds no token is 0.
+    // Whether every place that holds no token is 0. Two places, two tests: a loop is no plainer.
     #[tactic(auto, using(laws::specs::SignedLaws::zero_bits), unfolding(laws::specs::Lists::zero_from, laws::specs::Below::all_below))]
     pub fn clear(self) -> bool
         ensures { result ≡ clear self }
@@ -197,7 +199,7 @@ impl Row {
 
     // One cycle of the first `length` stations, all of them if it is over eight, from the link that
     // enters the row and the stop on the one that leaves it. Every station is worked from the row
-    // as it was.
+    // as it was, by its place: its link and its stop are its neighbours'.
     pub fn cycle(self, length: u8, link: Link, stop: bool) -> RowCycle
         ensures { result ≡ row_cycle self length link stop }
     {

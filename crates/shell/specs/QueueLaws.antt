@@ -1,6 +1,7 @@
 -- Laws of queues, at every depth at once: what push, pop and a cycle do to the tokens held, and that unused places stay 0. Assumes nothing.
 use Rattle.std.specs.Prelude.{None, Some, is_some, unwrap_or, Bool, true, false, not, ◌&&◌, List, [], ◌∷◌, ◌++◌, ◌≡◌, refl, ℕ, suc, ◌+◌, ◌-◌, ◌<◌, ◌≤◌, ltb, ℤ, pos, length, get_or, drop, set}
-use Rattle.std.proofs.Common.{append-nil, sym, ap, ap₂, ◌∙◌, not-suc-le-zero, arith, lt-ltb, ne_eqb, length-append, drop_of_length-le}
+use Rattle.std.specs.List.{copy_within}
+use Rattle.std.proofs.Common.{append-nil, subst, sym, ap, ap₂, ◌∙◌, not-suc-le-zero, arith, lt-ltb, ne_eqb, length-append, drop_of_length-le}
 use Rattle.laws.specs.Table.{table}
 use Rattle.laws.specs.TableLaws.{table_own}
 use Rattle.laws.specs.Choice.{◌if◌else◌}
@@ -67,22 +68,17 @@ after_of [] arriving true l h = bypass arriving l
 after_of (x ∷ xs) arriving true l h =
     taken x xs arriving ∙ ap (λ (q : Queue). pushed q arriving) (pop_of x xs (omega arith)) ∙ push_of xs arriving l (omega arith)
 
--- the record that `popped` builds
+-- ---- the code's steps
+-- all tokens a place nearer to the front, and 0 behind them
 pub popped_is :
     (q : Queue) → length q.tokens ≡ 8
-    → popped q ≡
-    record {
-      tokens =
-          get_or q.tokens 1 (pos 0) ∷ get_or q.tokens 2 (pos 0) ∷ get_or q.tokens 3 (pos 0) ∷ get_or q.tokens 4 (pos 0) ∷
-          get_or q.tokens 5 (pos 0) ∷ get_or q.tokens 6 (pos 0) ∷ get_or q.tokens 7 (pos 0) ∷ pos 0 ∷ [];
-      count = q.count - 1;
-    }
+    → record { tokens = set (copy_within q.tokens 1 (length q.tokens) 0) 7 (pos 0); count = q.count - 1 } ≡ popped q
 unfolding popped table
 popped_is q long =
-    ap (λ (t : List ℤ). record { tokens = drop 1 t ++ (pos 0 ∷ []); count = q.count - 1 })
-    (table_own q.tokens (pos 0) ∙ ap (table (λ (i : ℕ). get_or q.tokens i (pos 0))) long)
+    subst (λ (t : List ℤ). ◌≡◌ {A = Queue} (record { tokens = set (copy_within t 1 (length t) 0) 7 (pos 0); count = q.count - 1 })
+    (record { tokens = drop 1 t ++ (pos 0 ∷ []); count = q.count - 1 }))
+    (sym (table_own q.tokens (pos 0) ∙ ap (table (λ (i : ℕ). get_or q.tokens i (pos 0))) long)) refl
 
--- ---- the code's steps
 -- a queue that holds a token shows its first
 pub link_waiting :
     (q : Queue) (ys : List ℤ) → length q.tokens ≡ 8 → 0 < q.count

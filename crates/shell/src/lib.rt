@@ -20,7 +20,7 @@ impl Queue {
     // How many tokens the deepest queue has places for.
     pub const DEPTH: u8 = 8;
 
-    // A queue that holds no token.
+    // A queue that holds no token. `default()` would say less.
     #[tactic(auto, unfolding(crate::specs::Queue::queue_of, laws::specs::Lists::padded))]
     pub fn empty() -> Self
         ensures { result ≡ queue_of [] }
@@ -73,9 +73,11 @@ impl Queue {
         requires { 0 < self.count }
         ensures { result ≡ popped self }
     {
-        let [_, a, b, c, d, e, f, g] = self.tokens;
+        let mut tokens = self.tokens;
+        tokens.copy_within(1.., 0);
+        tokens[7] = 0;
         Queue {
-            tokens: [a, b, c, d, e, f, g, 0],
+            tokens,
             count: self.count - 1,
         }
     }

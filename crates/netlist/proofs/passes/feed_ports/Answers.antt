@@ -8,7 +8,7 @@ use Rattle.netlist.specs.Ports.{port_place, ports_below}
 use Rattle.netlist.specs.PassesLaws.{twice_found, twice_more}
 use Rattle.netlist.specs.PortsLaws.{place_there}
 use Rattle.netlist.specs.Readers.{channel_at}
-use Rattle.netlist.proofs.passes.feed_ports.Goals.{After-channel_at-w, After-loop-i}
+use Rattle.netlist.proofs.passes.feed_ports.Goals.{After-channel_at-w}
 use Rattle.netlist.proofs.passes.feed_ports.Goals as goal
 
 at-port : (c : After-channel_at-w) →
@@ -52,11 +52,3 @@ loop-i-preserved c =
       rw add-one (twice_more c.args.image.now c.loop-i.i c.loop-i.invariant.1 (found d c.loop-i.invariant.2 false c.if-ports-at.false)),
       rw (add-one, at-port d, c.loop-i.invariant.2),
     )
-
-all : (c : After-loop-i) → c.loop-i.i ≡ channels c.args.image.now
-all c = omega (arith, c.channels-c.ensures)
-
-pub returns : goal.returns
-returns c =
-    let e = all (goal.at.returns c).After-loop-i in
-    record { number = rw (rw e at c.loop-i.invariant.1); marks = rw e at c.loop-i.invariant.2 }

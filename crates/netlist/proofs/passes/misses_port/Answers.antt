@@ -1,26 +1,16 @@
--- `netlist::passes::misses_port` meets its contract. The invariant: what was found so far is the definition's below p. Assumes nothing.
-use mathlib.Core.Path.{◌≡◌, refl}
-use native.Mathlib.Numerals.{add-one}
-use native.Mathlib.Omega.{arith}
-use Rattle.laws.specs.Below.{any_below}
-use Rattle.netlist.specs.ImageLaws.{inputs_few}
+-- `netlist::passes::misses_port` meets its contract. Assumes nothing.
+use Rattle.std.proofs.Common.{◌∙◌, not, false, get_or, refl, rules, tests, arith}
+use Rattle.std.proofs.lemmas.Iterator.{YieldsList-from_range}
+use Rattle.std.proofs.lemmas.Iterator.Search.{any_from_yields_List}
+use Rattle.laws.specs.BelowLaws.{any_range}
+use Rattle.netlist.specs.Image.{kind, inputs}
 use Rattle.netlist.specs.Passes.{misses}
+use Rattle.netlist.specs.Ports.{port_place}
 use Rattle.netlist.proofs.passes.misses_port.Goals as goal
-
-pub loop-p-init : goal.loop-p-init
-unfolding any_below
-loop-p-init c = (omega arith, refl)
-
-pub bounds-ports-at : goal.bounds-ports-at
-bounds-ports-at c =
-    omega (arith, c.inputs-k.ensures, inputs_few c.kind_at.result)
-
-pub loop-p-preserved : goal.loop-p-preserved
-unfolding any_below
-loop-p-preserved c = (omega arith, rw (add-one, c.loop-p.invariant.1))
 
 pub returns : goal.returns
 unfolding misses
 returns c =
-    let e : c.loop-p.p ≡ c.inputs-k.result = omega arith in
-    rw (c.loop-p.invariant.1, e, c.inputs-k.ensures, c.kind_at.ensures)
+    let k = inputs (kind c.args.image.now c.args.n) in
+    any_from_yields_List (λ p. not (get_or c.args.ports.now (port_place c.args.n p) false)) _ _ _ c.any.ensures.ran
+    (YieldsList-from_range 0 _ k refl (rw (c.inputs.ensures, c.kind_at.ensures) (omega arith))) (λ x b q k. search (rules, tests)) ∙ any_range _ _
