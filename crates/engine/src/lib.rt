@@ -33,10 +33,7 @@ struct Taken {
 pub fn sets_above(word: u64, n: u8) -> bool
     ensures { result ≡ sets_above n word }
 {
-    if 64 <= n {
-        return false;
-    }
-    word >> n != 0
+    word.checked_shr(u32::from(n)).is_some_and(|rest| rest != 0)
 }
 
 // The netlist of an image that a state fits: the judge's refusals, and then 21. The state comes by value:
@@ -86,14 +83,14 @@ fn words_taken(nodes: u8, cycles: u32, words: &[u64]) -> Taken
     ensures { taken_told result ≡ taken_from nodes cycles words.now }
 {
     let room = (State::CYCLES - cycles) as usize;
-    for i in 0..words.len() {
+    for (i, &word) in words.iter().enumerate() {
         if i == room {
             return Taken {
                 steps: i,
                 stopped: Some(Refusal::Cycles),
             };
         }
-        if sets_above(words[i], nodes) {
+        if sets_above(word, nodes) {
             return Taken {
                 steps: i,
                 stopped: Some(Refusal::Stall),
@@ -121,10 +118,9 @@ pub fn step(
 ) -> Result<State, Refused>
     ensures { StepDone image.now state word letters.old values.old (told result) letters.new values.new }
 {
-    let netlist = match admitted(image, state, word, letters.len(), values.len()) {
-        Ok(netlist) => netlist,
-        Err(refusal) => return Err(Refused { refusal, state }),
-    };
+    let netlist = admitted(image, state, word, letters.len(), values.len()).map_err(
+        |refusal| Refused { state, refusal },
+    )?;
     cycle::show(netlist, state, letters, values);
     Ok(cycle::cycles(netlist, state, &[word]))
 }
