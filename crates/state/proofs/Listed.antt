@@ -1,6 +1,6 @@
 -- A test of the first elements of a list, of those behind them, and of a part of it, one by one. Assumes nothing.
-use Rattle.std.specs.Prelude.{Bool, true, false, ◌≡◌, ◌||◌, ℕ, zero, suc, ◌+◌, ◌-◌, ◌<◌, ◌≤◌, ltb, length, take, drop, get_or}
-use mathlib.Core.List.{List, [], ◌∷◌, ◌++◌}
+use Rattle.std.specs.Prelude.{Bool, ◌≡◌, ◌||◌, ℕ, zero, suc, ◌+◌, ◌-◌, ◌<◌, ◌≤◌, ltb, length, take, drop, get_or}
+use mathlib.Core.List.{List}
 use Rattle.std.proofs.Common.{sym, ap, refl, ◌∙◌, arith, ⊎_elim, lt-ltb, le-ltb, length-drop}
 use Rattle.std.proofs.Math.Bool.{and-true}
 use Rattle.std.proofs.Math.Seq.{take-suc, take_all}

@@ -1,9 +1,9 @@
 -- The passes by which number 21 is tested: the places that are used, and the rest by themselves. `FitsPassesLaws` proves that together they are `fits`.
-use Rattle.std.specs.Prelude.{Bool, ◌&&◌, ◌||◌, List, [], ℕ, ◌*◌, eqb, leb, ltb, length, get_or}
+use Rattle.std.specs.Prelude.{Bool, ◌&&◌, ◌||◌, List, ℕ, ◌*◌, eqb, leb, ltb, length, get_or}
 use Rattle.laws.specs.Below.{all_below, sum_below}
 use Rattle.laws.specs.Lists.{zero_from}
 use Rattle.laws.specs.Signed.{is_zero}
-use Rattle.netlist.specs.Image.{nodes, channels, stations, depth}
+use Rattle.netlist.specs.Image.{channels, stations, depth}
 use Rattle.relay.specs.declared.Station.{Station}
 use Rattle.relay.specs.Station.{clear}
 use Rattle.relay.specs.RowCycle.{no_station}

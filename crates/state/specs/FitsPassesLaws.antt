@@ -1,6 +1,6 @@
 -- The passes of number 21 together are its definition. Assumes nothing.
 use Rattle.std.proofs.Math.Bool.{Bool}
-use Rattle.std.specs.Prelude.{true, ◌&&◌, ◌||◌, List, ◌↔◌, ◌≡◌, ℤ, pos, get_or}
+use Rattle.std.specs.Prelude.{true, ◌&&◌, ◌||◌, List, ◌↔◌, ◌≡◌, pos, get_or}
 use Rattle.std.proofs.Math.Logic.{⊎_elim}
 use Prim.Native.Nat.{ℕ, ◌+◌, ◌*◌, ◌/◌, ◌%◌, ◌<◌, ◌≤◌}
 use Rattle.std.proofs.Common.{arith}
@@ -20,7 +20,7 @@ use Rattle.state.specs.declared.State.{State}
 use Rattle.state.specs.State.{value_at, firings_at, mark_at, station_at, queue_at}
 use Rattle.state.specs.Fits.{cycles_fit, firings_fit, node_clear, stations_fit, mark_clear, balanced, fits}
 use Rattle.state.specs.FitsPasses.{empty_station, empty_queue, nodes_fit, channel_fits, channels_fit, channel_clear, place_clear, queue_empty, channels_clear}
-use Rattle.state.specs.Places.{Places, Cleared, StationClear, QueueClear, Within, Balanced, zero_from_lem, cycles_say, firings_say, counts_say, node_says, mark_says, balance_says, fits_iff}
+use Rattle.state.specs.Places.{Places, Cleared, StationClear, Within, Balanced, zero_from_lem, cycles_say, firings_say, counts_say, node_says, mark_says, balance_says, fits_iff}
 
 -- a station and a queue that are not there
 abbrev EmptyStation : Station → Type 0

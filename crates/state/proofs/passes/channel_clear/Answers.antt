@@ -1,12 +1,10 @@
 -- `state::passes::channel_clear` meets its contract. Assumes nothing.
-use Rattle.std.proofs.Common.{rules, tests, ◌≡◌, ◌<◌, ◌≤◌, ◌+◌, ◌*◌, ◌-◌, ◌∙◌, arith, length, take, drop}
-use Rattle.std.specs.Prelude.{leb, Bool}
+use Rattle.std.proofs.Common.{rules, tests, ◌≡◌, ◌≤◌, ◌+◌, ◌*◌, ◌-◌, ◌∙◌, arith, length, take, drop}
 use Rattle.std.proofs.lemmas.Iterator.{YieldsList-from_slice}
 use Rattle.std.proofs.lemmas.Iterator.Search.{all_from_yields_List}
-use Rattle.netlist.specs.Image.{channels, stations}
+use Rattle.netlist.specs.Image.{stations}
 use Rattle.netlist.specs.AcceptedLaws.{channels_few}
 use Rattle.netlist.specs.Readers.{channel_at}
-use Rattle.relay.specs.declared.Station.{Station}
 use Rattle.relay.specs.Station.{clear}
 use Rattle.relay.specs.RowCycle.{no_station}
 use Rattle.state.specs.State.{station_at, queue_at}

@@ -1,6 +1,6 @@
 -- `state::passes::channels_clear` meets its contract. Assumes nothing.
-use Rattle.std.proofs.Common.{rules, tests, ◌≡◌, ◌<◌, ◌≤◌, ◌+◌, ◌*◌, ◌-◌, ◌∙◌, arith, length, length-drop, take, drop, take_all, refl}
-use Rattle.std.specs.Prelude.{eqb, Bool}
+use Rattle.std.proofs.Common.{rules, tests, ◌≡◌, ◌*◌, ◌-◌, ◌∙◌, arith, length, take, drop, refl}
+use Rattle.std.specs.Prelude.{eqb}
 use Rattle.std.proofs.lemmas.Iterator.{YieldsList-from_slice, YieldsList-from_range}
 use Rattle.std.proofs.lemmas.Iterator.Search.{all_from_yields_List}
 use Rattle.laws.specs.BelowLaws.{all_range}

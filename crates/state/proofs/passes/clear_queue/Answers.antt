@@ -1,6 +1,6 @@
 -- `state::passes::clear_queue` meets its contract. Assumes nothing.
-use Rattle.std.proofs.Common.{rules, tests, ◌≡◌, ◌∙◌, arith, length, drop}
-use Rattle.std.specs.Prelude.{ℤ, pos}
+use Rattle.std.proofs.Common.{rules, tests, ◌≡◌, ◌∙◌, length}
+use Rattle.std.specs.Prelude.{pos}
 use Rattle.std.proofs.lemmas.Iterator.{YieldsList-from_slice}
 use Rattle.std.proofs.lemmas.Iterator.Adapters.{YieldsList-from_skip}
 use Rattle.std.proofs.lemmas.Iterator.Search.{all_from_yields_List}

@@ -1,6 +1,6 @@
 -- `state::passes::held` meets its contract. Assumes nothing.
-use Rattle.std.proofs.Common.{rules, ◌≡◌, ◌+◌, ◌<◌, ◌^◌, arith, add-one, refl}
-use Rattle.std.specs.Prelude.{length, get_or, eqb}
+use Rattle.std.proofs.Common.{rules, ◌≡◌, ◌<◌, ◌^◌, arith, add-one, refl}
+use Rattle.std.specs.Prelude.{length, get_or}
 use Rattle.laws.specs.Below.{sum_below}
 use Rattle.relay.specs.RowCycle.{no_station}
 use Rattle.state.specs.FitsPasses.{counted}

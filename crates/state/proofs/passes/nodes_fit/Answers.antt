@@ -1,5 +1,5 @@
 -- `state::passes::nodes_fit` meets its contract. Assumes nothing.
-use Rattle.std.proofs.Common.{rules, tests, ◌≡◌, ◌∙◌, arith, length, take, drop, ◌-◌}
+use Rattle.std.proofs.Common.{rules, tests, ◌≡◌, ◌∙◌, length, take, drop, ◌-◌}
 use Rattle.std.specs.Prelude.{leb, Bool, ◌≤◌}
 use Rattle.std.proofs.lemmas.Iterator.{YieldsList-from_slice}
 use Rattle.std.proofs.lemmas.Iterator.Search.{all_from_yields_List}
