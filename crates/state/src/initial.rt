@@ -16,7 +16,8 @@ impl State {
 
     pub const CYCLES: u32 = 1000000;
 
-    // A state of zeros throughout. By hand: no `Default` is derived for arrays of 64 places and more.
+    // A state of zeros throughout. By hand: a derived `Default` would want one of stations and queues too,
+    // beside their `empty`.
     pub fn zeros() -> Self
         ensures { result ≡ zeros }
     {

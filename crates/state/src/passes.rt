@@ -54,8 +54,8 @@ pub(crate) fn nodes_fit(netlist: Netlist, state: &State) -> bool
     used & unused
 }
 
-// How many tokens the stations of a row hold. A loop: `sum` wants a bound on what is added, which the
-// counts of a state that is yet to be judged do not have but for their type.
+// How many tokens the stations of a row hold. A loop, since it carries what bounds the sum: 255 for
+// each station.
 fn held(row: &[Station]) -> u16
     requires { length row.now ≤ 8 }
     ensures { (result ≡ counted row.now) × (result < 2048) }
