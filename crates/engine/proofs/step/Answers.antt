@@ -1,5 +1,5 @@
 -- `engine::step` meets its contract. Assumes nothing.
-use Rattle.std.proofs.Common.{◌≡◌, refl, ◌≤◌, ◌+◌, length, sym, ap, ◌∙◌, arith, rules, tests}
+use Rattle.std.proofs.Common.{◌≡◌, refl, ◌≤◌, length, sym, ap, ◌∙◌, arith, rules, tests}
 use Rattle.std.specs.Prelude.{Result, Ok, Err, unwrap_or}
 use Rattle.std.specs.Result.{MatchResult, IsErrAnd, is_ok, result_ok}
 use Rattle.std.proofs.lemmas.Bool.{false≢true}
