@@ -77,6 +77,7 @@ fn balanced(mark: u8, held: u16, waiting: u8, from: u32, to: u32) -> bool
 
 // A channel: "pending marks are 0 or 1; station and queue counts are within their depths", and it is
 // balanced.
+#[tactic(auto, using(netlist::specs::AcceptedLaws::channels_few))]
 fn channel_fits(netlist: Netlist, state: &State, c: u8) -> bool
     requires { c < channels netlist.image.now }
     ensures { result ≡ channel_fits netlist.entry.image.now state.now c }
@@ -100,6 +101,7 @@ pub(crate) fn channels_fit(netlist: Netlist, state: &State) -> bool
 }
 
 // A channel: places that no station of the image and no held token uses are 0.
+#[tactic(auto, using(netlist::specs::AcceptedLaws::channels_few))]
 fn channel_clear(netlist: Netlist, state: &State, c: u8) -> bool
     requires { c < channels netlist.image.now }
     ensures { result ≡ channel_clear netlist.entry.image.now state.now c }

@@ -12,14 +12,6 @@ use Rattle.state.specs.FitsPasses.{empty_station, channel_clear}
 use Rattle.state.proofs.Listed.{part, part_rest}
 use Rattle.state.proofs.passes.channel_clear.Goals as goal
 
-pub slice_bounds-iter-end : goal.slice_bounds-iter-end
-slice_bounds-iter-end c =
-    search (rules, channels_few c.args.netlist.image.now c.args.netlist.accepted, (c.channel.ensures.placed c.requires).stations)
-
-pub slice_bounds-iter-end-2 : goal.slice_bounds-iter-end-2
-slice_bounds-iter-end-2 c =
-    search (rules, channels_few c.args.netlist.image.now c.args.netlist.accepted, (c.channel.ensures.placed c.requires).stations)
-
 pub returns : goal.returns
 unfolding channel_clear queue_at station_at channel_at
 returns c =

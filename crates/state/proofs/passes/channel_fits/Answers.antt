@@ -15,18 +15,6 @@ use Rattle.state.specs.FitsPasses.{counted, channel_fits}
 use Rattle.state.proofs.Listed.{part, counted_part}
 use Rattle.state.proofs.passes.channel_fits.Goals as goal
 
-pub slice_bounds-row-end : goal.slice_bounds-row-end
-slice_bounds-row-end c =
-    let few = channels_few c.args.netlist.image.now c.args.netlist.accepted in
-    let placed = c.channel-channel.ensures.placed c.requires in
-    search (rules, few, placed.stations)
-
-pub bounds-state-at : goal.bounds-state-at
-bounds-state-at c = let few = channels_few c.args.netlist.image.now c.args.netlist.accepted in search (rules, few)
-
-pub bounds-state-at-2 : goal.bounds-state-at-2
-bounds-state-at-2 c = let few = channels_few c.args.netlist.image.now c.args.netlist.accepted in search (rules, few)
-
 pub returns : goal.returns
 unfolding channel_fits node_at mark_at queue_at station_at stations_fit balanced channel_at
 returns c =
