@@ -1,5 +1,7 @@
 // Benches for relay stations on their own: one station, or a row of up to eight, is lent and changed
-// in place by one cycle.
+// in place by one cycle. Link and stop are two parameters throughout, as C lends them and as the relay's
+// and the shell's functions take them, where they belong to different links. One station and a row are
+// apart: a row has a length, and is refused for it, and its copy has eight places.
 #![tactic(auto)]
 
 pub mod steps;
@@ -12,7 +14,7 @@ use refusal::Refusal;
 use relay::{Link, Row, Station};
 
 // What a bench answers: the letter and the value of the link that leaves the row, and whether the
-// incoming token was taken.
+// incoming token was taken: the three that C is told.
 #[derive(Clone, Copy, Debug, PartialEq, Eq)]
 pub struct Answer {
     pub letter: u8,
@@ -20,14 +22,16 @@ pub struct Answer {
     pub taken: bool,
 }
 
-// What was benched as it is after the bench, and the answer. One that is refused is as it was.
+// What was benched as it is after the bench, and the answer. One that is refused is as it was, and is
+// handed back: so the records stand beside the `Result` and not in it.
 #[derive(Clone, Copy)]
 pub struct Benched<T> {
     pub after: T,
     pub answer: Result<Answer, Refusal>,
 }
 
-// Nine records, one more than a row may have.
+// Nine records, one more than a row may have: how many of them are lent is a number beside them, so that
+// rows of 0 and 9 can be tried too.
 #[derive(Clone, Copy)]
 pub struct Records {
     pub stations: [Station; 9],
@@ -53,17 +57,19 @@ pub fn station_bench(s: &mut Station, link: Link, stop: bool) -> Result<Answer, 
 // records or over 8, then 21 as above: the row stays as it was.
 //
 // The row is copied out, worked by value, and stored back only if it was accepted. A row that is too
-// long is not copied: its number is 15 whatever it holds.
+// long is refused before: its number is 15 whatever it holds.
 pub fn row_bench(row: &mut [Station], link: Link, stop: bool) -> Result<Answer, Refusal>
     ensures { BenchDone row.old link stop (told result) row.new }
 {
     let n = row.len();
-    let m = steps::copies(n);
+    if (Row::LENGTH as usize) < n {
+        return Err(Refusal::Row);
+    }
     let mut copy = steps::empty_row().stations;
-    copy[..m].copy_from_slice(&row[..m]);
+    copy[..n].copy_from_slice(row);
     let out = steps::row_step(Row { stations: copy }, n, link, stop);
     if out.answer.is_ok() {
-        row[..m].copy_from_slice(&out.after.stations[..m]);
+        row.copy_from_slice(&out.after.stations[..n]);
     }
     out.answer
 }

@@ -3,7 +3,7 @@ ghost use Rattle.std.specs.Prelude.{◌≡◌, ◌≤◌, Ok, min};
 ghost use Rattle.laws.specs.Below.{all_below};
 ghost use Rattle.bench.specs.Bench.{fits, told, reply};
 ghost use Rattle.bench.specs.ByValue.{benched_told, station_benched, row_benched};
-ghost use Rattle.bench.specs.Copy.{copies, record_at, empty_row};
+ghost use Rattle.bench.specs.Copy.{record_at, empty_row};
 
 use crate::{Answer, Benched, Records};
 use refusal::Refusal;
@@ -81,15 +81,6 @@ pub fn row_step(row: Row, n: usize, link: Link, stop: bool) -> Benched<Row>
 }
 
 // ---- a row that is lent: copied out, and stored back
-
-// How many records are copied: all of a row that is not too long, and none of one that is.
-#[tactic(auto, unfolding(crate::specs::Copy::copies))]
-pub(crate) fn copies(n: usize) -> usize
-    ensures of_n { result ≡ copies n }
-    ensures few { (result ≤ n) × (result ≤ 8) }
-{
-    if (Row::LENGTH as usize) < n { 0 } else { n }
-}
 
 // Eight empty stations, to be copied over.
 #[tactic(auto, unfolding(crate::specs::Copy::empty_row))]

@@ -25,7 +25,8 @@ fn stalls(word: u64, n: usize) -> bool
     (word >> n) % 2 == 1
 }
 
-// A node that fires, from what its ports bring.
+// A node that fires, from what its ports bring. That no node has fired 1,000,000 times is asked by its
+// number here, at `cycles` and of a run's words: a definition of it would have to be opened in each proof.
 fn fired(node: Node, kind: Kind, a: i32, b: i32, c: i32) -> Node
     requires { node.firings < 1000000 }
     ensures { result ≡ record { value = next_value (code kind) node.value a b c; firings = suc node.firings } }
@@ -36,7 +37,7 @@ fn fired(node: Node, kind: Kind, a: i32, b: i32, c: i32) -> Node
     }
 }
 
-// The fields of all channels.
+// The fields of all channels. By index, since the netlist is asked for each channel by its number.
 fn wires_of(netlist: Netlist) -> [Channel; 96]
     ensures { result ≡ wires_below netlist.entry.image.now (channels netlist.entry.image.now) }
 {
@@ -56,7 +57,14 @@ fn wires_of(netlist: Netlist) -> [Channel; 96]
 
 // The state after the cycles of these words. Each cycle is worked from the state at its start, `old`,
 // and written to `s`. It is one function because a state that is handed to another is copied, which
-// costs a tenth of the cycle each time (docs/PERFORMANCE.md).
+// costs a tenth of the cycle each time (docs/PERFORMANCE.md). For the same reason the fields of a channel
+// are taken out in both loops over the channels. Netlist and state are no struct that says that they fit:
+// `fitted` of the engine would answer a state of 10 kB in a `Result`, beside its caller's own.
+//
+// The loops go by index: each turn reads and writes several arrays, at places that it works out. Starved,
+// blocked and firing nodes have arrays of their own, since a channel marks one node as starved and another
+// as blocked. What the inputs bring stands flat, port p of node n at place 3 * n + p, as the judge's marks
+// and the strict run's feeders do: one law of ports serves all three.
 pub fn cycles(netlist: Netlist, state: State, words: &[u64]) -> State
     requires fitting { Fitting netlist.image.now state }
     requires words_bound { state.cycles + length words.now ≤ 1000000 }
@@ -146,7 +154,8 @@ pub fn cycles(netlist: Netlist, state: State, words: &[u64]) -> State
     s
 }
 
-// Each channel's letter and value, written to the first places of two lent arrays.
+// Each channel's letter and value, written to the first places of two lent arrays, as C lends them. By
+// index: a turn reads four arrays of the state, too, at the channel's own place and at that of its node.
 pub fn show(netlist: Netlist, state: State, letters: &mut [u8], values: &mut [i32])
     requires fitting { Fitting netlist.image.now state }
     requires image_in_bounds { (channels netlist.image.now ≤ length letters.old) × (channels netlist.image.now ≤ length values.old) }

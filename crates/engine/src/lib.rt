@@ -33,14 +33,13 @@ struct Taken {
 pub fn sets_above(word: u64, n: u8) -> bool
     ensures { result ≡ sets_above n word }
 {
-    if 64 <= n {
-        return false;
-    }
-    word >> n != 0
+    word.checked_shr(u32::from(n)).is_some_and(|rest| rest != 0)
 }
 
 // The netlist of an image that a state fits: the judge's refusals, and then 21. The state comes by value:
-// behind a reference nothing is known of the lengths of its arrays.
+// behind a reference nothing is known of the lengths of its arrays. Image and state are two parameters
+// here, as C hands them over, and that they fit is asked of no caller. The clauses `number` and `same` stand
+// at each function that answers a netlist: they tie what it answers to the image that it was handed.
 pub fn fitted<'a>(image: &'a [u8], state: State) -> Result<Netlist<'a>, Refusal>
     ensures number { number_of result ≡ state_number image.entry.now state }
     ensures same { IfOk result (λ netlist. netlist.image ≡ image.entry) }
@@ -86,14 +85,14 @@ fn words_taken(nodes: u8, cycles: u32, words: &[u64]) -> Taken
     ensures { taken_told result ≡ taken_from nodes cycles words.now }
 {
     let room = (State::CYCLES - cycles) as usize;
-    for i in 0..words.len() {
+    for (i, &word) in words.iter().enumerate() {
         if i == room {
             return Taken {
                 steps: i,
                 stopped: Some(Refusal::Cycles),
             };
         }
-        if sets_above(words[i], nodes) {
+        if sets_above(word, nodes) {
             return Taken {
                 steps: i,
                 stopped: Some(Refusal::Stall),
@@ -121,10 +120,9 @@ pub fn step(
 ) -> Result<State, Refused>
     ensures { StepDone image.now state word letters.old values.old (told result) letters.new values.new }
 {
-    let netlist = match admitted(image, state, word, letters.len(), values.len()) {
-        Ok(netlist) => netlist,
-        Err(refusal) => return Err(Refused { refusal, state }),
-    };
+    let netlist = admitted(image, state, word, letters.len(), values.len()).map_err(
+        |refusal| Refused { state, refusal },
+    )?;
     cycle::show(netlist, state, letters, values);
     Ok(cycle::cycles(netlist, state, &[word]))
 }

@@ -6,7 +6,8 @@ ghost use Rattle.std.specs.Prelude.{◌≡◌};
 ghost use Rattle.starred.specs.Edges.{edge_at};
 
 // A kind, the values s, a, b and c that go in, and the next value that they give.
-// The kind is a number since past the table's end it is 0, which is no `pearl::Kind`.
+// The kind is a number since past the table's end it is 0, which is no `pearl::Kind`: for every number
+// there is an entry, as the exported `edge_at` promises.
 #[derive(Clone, Copy)]
 pub struct Edge {
     pub kind: u8,
@@ -34,23 +35,23 @@ const EDGES: [Edge; 9] = [
     },
     Edge {
         kind: 4,
-        inputs: [0, -2147483648, 0, 0],
-        expected: -2147483648,
+        inputs: [0, i32::MIN, 0, 0],
+        expected: i32::MIN,
     },
     Edge {
         kind: 1,
-        inputs: [2147483647, 0, 0, 0],
-        expected: -2147483648,
+        inputs: [i32::MAX, 0, 0, 0],
+        expected: i32::MIN,
     },
     Edge {
         kind: 3,
-        inputs: [2147483647, 1, 0, 0],
-        expected: -2147483648,
+        inputs: [i32::MAX, 1, 0, 0],
+        expected: i32::MIN,
     },
     Edge {
         kind: 6,
-        inputs: [0, 2147483647, 1, 0],
-        expected: -2147483648,
+        inputs: [0, i32::MAX, 1, 0],
+        expected: i32::MIN,
     },
     Edge {
         kind: 9,

@@ -15,7 +15,6 @@ use Rattle.state.specs.declared.State.{State}
 use Rattle.state.specs.State.{value_at, firings_at, mark_at, station_at, queue_at}
 use Rattle.state.specs.Fits.{cycles_fit, firings_fit, marks_fit, stations_fit, counts_fit, unused_clear, balanced, fits}
 use Rattle.state.specs.Fits.{node_clear, mark_clear, station_clear, queue_clear}
-use Rattle.state.specs.FitsPasses.{channel_clear}
 
 -- an array of n places is 0 from `count` on
 abbrev pub Cleared : ℕ → ℕ → List ℤ → Type 0
@@ -51,7 +50,7 @@ pub record Places (img : List ℕ) (s : State) : Type 0 where
   pub queue : (c : ℕ) → c < 96 → QueueClear img s c
   pub balance : (c : ℕ) → c < channels img → Balanced img s c
 
-zero_from_lem : (n count : ℕ) (l : List ℤ) → (zero_from n count l ≡ true) ↔ Cleared n count l
+pub zero_from_lem : (n count : ℕ) (l : List ℤ) → (zero_from n count l ≡ true) ↔ Cleared n count l
 unfolding zero_from
 zero_from_lem n count l =
     all_iff (λ i. ltb i count || is_zero (get_or l i (pos 0))) n λ i.
@@ -62,7 +61,7 @@ module _ (img : List ℕ) (s : State) where
   unfolding cycles_fit
   cycles_say = le_iff s.cycles 1000000
 
-  firings_say : (firings_fit img s ≡ true) ↔ ((n : ℕ) → n < nodes img → firings_at s n ≤ s.cycles)
+  pub firings_say : (firings_fit img s ≡ true) ↔ ((n : ℕ) → n < nodes img → firings_at s n ≤ s.cycles)
   unfolding firings_fit
   firings_say = all_iff (λ n. leb (firings_at s n) s.cycles) (nodes img) (λ n. le_iff (firings_at s n) s.cycles)
 
@@ -83,7 +82,7 @@ module _ (img : List ℕ) (s : State) where
       or-iff (ltb n (nodes img)) (is_zero (value_at s n) && eqb (firings_at s n) 0) (ge-iff n (nodes img))
       (and-iff (is_zero (value_at s n)) (eqb (firings_at s n) 0) (zero_iff (value_at s n)) (eq_iff (firings_at s n) 0))
 
-  mark_says : (c : ℕ) → (mark_clear img s c ≡ true) ↔ (channels img ≤ c → mark_at s c ≡ 0)
+  pub mark_says : (c : ℕ) → (mark_clear img s c ≡ true) ↔ (channels img ≤ c → mark_at s c ≡ 0)
   unfolding mark_clear
   mark_says c = or-iff (ltb c (channels img)) (eqb (mark_at s c) 0) (ge-iff c (channels img)) (eq_iff (mark_at s c) 0)
 
@@ -103,11 +102,15 @@ module _ (img : List ℕ) (s : State) where
       and-iff (zero_from 8 q.count q.tokens) (ltb c (channels img) || eqb q.count 0) (zero_from_lem 8 q.count q.tokens)
       (or-iff (ltb c (channels img)) (eqb q.count 0) (ge-iff c (channels img)) (eq_iff q.count 0))
 
-  pub channel_says :
+  -- the places of channel c
+  unfoldable channel_unused : ℕ → Bool
+  channel_unused c = mark_clear img s c && all_below (station_clear img s c) 8 && queue_clear img s c
+
+  channel_says :
       (c : ℕ)
-      → (channel_clear img s c ≡ true) ↔
+      → (channel_unused c ≡ true) ↔
       (((channels img ≤ c → mark_at s c ≡ 0) × ((j : ℕ) → j < 8 → StationClear img s c j)) × QueueClear img s c)
-  unfolding channel_clear
+  unfolding channel_unused
   channel_says c =
       let row = all_below (station_clear img s c) 8 in
       and-iff (mark_clear img s c && row) (queue_clear img s c)
@@ -121,20 +124,20 @@ module _ (img : List ℕ) (s : State) where
 
   -- all of them together
   pub fits_iff : (fits img s ≡ true) ↔ Places img s
-  unfolding fits counts_fit unused_clear channel_clear
+  unfolding fits counts_fit unused_clear channel_unused
   fits_iff =
       let a = cycles_fit img s in
       let b = firings_fit img s in
       let c = marks_fit img s in
       let d = counts_fit img s in
       let e = all_below (node_clear img s) 64 in
-      let f = all_below (channel_clear img s) 96 in
+      let f = all_below channel_unused 96 in
       let within : ℕ → Bool = λ k. stations_fit img s k && leb (queue_at s k).count (depth img k) in
       let says =
       and-iff (a && b && c && d && (e && f)) (all_below (balanced img s) (channels img))
       (and-iff (a && b && c && d) (e && f)
       (and-iff (a && b && c) d (and-iff (a && b) c (and-iff a b cycles_say firings_say) marks_say) (all_iff within (channels img) counts_say))
-      (and-iff e f (all_iff (node_clear img s) 64 node_says) (all_iff (channel_clear img s) 96 channel_says)))
+      (and-iff e f (all_iff (node_clear img s) 64 node_says) (all_iff channel_unused 96 channel_says)))
       (all_iff (balanced img s) (channels img) balance_says) in (
         λ q.
             let p = says.0 q in

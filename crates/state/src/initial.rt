@@ -16,7 +16,8 @@ impl State {
 
     pub const CYCLES: u32 = 1000000;
 
-    // A state of zeros throughout.
+    // A state of zeros throughout. By hand: a derived `Default` would want one of stations and queues too,
+    // beside their `empty`.
     pub fn zeros() -> Self
         ensures { result ≡ zeros }
     {
@@ -41,8 +42,9 @@ impl State {
         ensures { result ≡ fresh_state netlist.entry.image.now }
     {
         let nodes = netlist.nodes();
-        let channels = netlist.channels();
+        let channels = usize::from(netlist.channels());
         let mut state = State::zeros();
+        // By index, since the netlist is asked for each node by its number.
         for n in 0..nodes {
             let core = netlist.core(n);
             state.nodes[n as usize] = Node {
@@ -50,9 +52,9 @@ impl State {
                 firings: 0,
             };
         }
-        for c in 0..channels {
-            state.pending[c as usize] = 1;
-        }
+        let mut pending = [0; 96];
+        pending[..channels].fill(1);
+        state.pending = pending;
         state
     }
 

@@ -1,51 +1,70 @@
 // The passes of number 21, each over all nodes or all channels.
-ghost use Rattle.std.specs.Prelude.{◌≡◌, ◌+◌, eqb};
-ghost use Rattle.state.specs.FitsPasses.{node_fits, clear_station, clear_queue, nodes_fit, channels_fit, channels_clear};
+ghost use Rattle.std.specs.Prelude.{◌≡◌, ◌+◌, ◌<◌, ◌≤◌, length, eqb};
+ghost use Rattle.laws.specs.Lists.{zero_from};
+ghost use Rattle.netlist.specs.Image.{channels};
+ghost use Rattle.state.specs.FitsPasses.{counted, empty_node, empty_station, empty_queue, nodes_fit, channel_fits, channels_fit, channel_clear, channels_clear};
 
 use crate::{Node, State};
 use netlist::Netlist;
 use relay::{Row, Station};
 use shell::Queue;
 
-// Whether a node's firings are within the cycle count, and its place is 0 if there is no such node.
-fn node_fits(node: Node, there: bool, cycles: u32) -> bool
-    ensures { result ≡ node_fits node there cycles }
+// Whether a node that is not there is 0 throughout.
+#[tactic(auto, using(laws::specs::SignedLaws::zero_bits), unfolding(crate::specs::FitsPasses::empty_node))]
+fn empty_node(node: Node) -> bool
+    ensures { result ≡ empty_node node }
 {
-    (node.firings <= cycles) & (there | ((node.value == 0) & (node.firings == 0)))
+    (node.value == 0) & (node.firings == 0)
 }
 
-// Whether a station's places that hold no token are 0, all of them if there is no such station.
-fn clear_station(station: Station, there: bool) -> bool
-    ensures { result ≡ clear_station station there }
+// Whether a station that is not there holds no token, and is 0 throughout.
+#[tactic(auto, unfolding(crate::specs::FitsPasses::empty_station))]
+fn empty_station(station: Station) -> bool
+    ensures { result ≡ empty_station station }
 {
-    station.clear() & (there | (station.count == 0))
+    station.clear() & (station.count == 0)
 }
 
-// The same of a queue.
-fn clear_queue(queue: Queue, there: bool) -> bool
-    ensures { result ≡ clear_queue queue there }
+// Whether a queue's places that hold no token are 0.
+fn clear_queue(queue: Queue) -> bool
+    ensures { result ≡ zero_from 8 queue.count queue.tokens }
 {
-    let count = queue.count;
-    let mut clear = true;
-    for i in 0..Queue::DEPTH {
-        let token = queue.tokens[i as usize];
-        clear = clear & ((i < count) | (token == 0));
-    }
-    clear & (there | (count == 0))
+    let count = usize::from(queue.count);
+    queue.tokens.iter().skip(count).all(|token| *token == 0)
+}
+
+// The same as of a station.
+#[tactic(auto, unfolding(crate::specs::FitsPasses::empty_queue))]
+fn empty_queue(queue: Queue) -> bool
+    ensures { result ≡ empty_queue queue }
+{
+    clear_queue(queue) & (queue.count == 0)
 }
 
 // The nodes: "firings are at most the cycle count", and places that no node uses are 0.
 pub(crate) fn nodes_fit(netlist: Netlist, state: &State) -> bool
     ensures { result ≡ nodes_fit netlist.entry.image.now state.now }
 {
-    let nodes = netlist.nodes();
+    let nodes = usize::from(netlist.nodes());
     let cycles = state.cycles;
-    let mut fit = true;
-    for n in 0..State::NODES {
-        let node = state.nodes[n as usize];
-        fit = fit & node_fits(node, n < nodes, cycles);
+    let used = state.nodes[..nodes]
+        .iter()
+        .all(|node| node.firings <= cycles);
+    let unused = state.nodes[nodes..].iter().all(|node| empty_node(*node));
+    used & unused
+}
+
+// How many tokens the stations of a row hold. A loop, since it carries what bounds the sum: 255 for
+// each station.
+fn held(row: &[Station]) -> u16
+    requires { length row.now ≤ 8 }
+    ensures { (result ≡ counted row.now) × (result < 2048) }
+{
+    let mut held: u16 = 0;
+    for station in row {
+        held += u16::from(station.count);
     }
-    fit
+    held
 }
 
 // "pending + stations + queue = firings of from + 1 - firings of to". What is taken away on the right
@@ -56,51 +75,60 @@ fn balanced(mark: u8, held: u16, waiting: u8, from: u32, to: u32) -> bool
     mark as u64 + held as u64 + waiting as u64 + to as u64 == from as u64 + 1
 }
 
-// The channels: "pending marks are 0 or 1; station and queue counts are within their depths", and
-// each channel is balanced.
+// A channel: "pending marks are 0 or 1; station and queue counts are within their depths", and it is
+// balanced.
+#[tactic(auto, using(netlist::specs::AcceptedLaws::channels_few))]
+fn channel_fits(netlist: Netlist, state: &State, c: u8) -> bool
+    requires { c < channels netlist.image.now }
+    ensures { result ≡ channel_fits netlist.entry.image.now state.now c }
+{
+    let channel = netlist.channel(c);
+    let at = usize::from(c);
+    let row = &state.stations[8 * at..8 * at + usize::from(channel.stations)];
+    let mark = state.pending[at];
+    let queue = state.queues[at];
+    let from = state.nodes[usize::from(channel.from)];
+    let to = state.nodes[usize::from(channel.to)];
+    let stations = row.iter().all(|station| station.count <= Station::DEPTH);
+    let counts = (mark <= 1) & (stations & (queue.count <= channel.depth));
+    counts & balanced(mark, held(row), queue.count, from.firings, to.firings)
+}
+
 pub(crate) fn channels_fit(netlist: Netlist, state: &State) -> bool
     ensures { result ≡ channels_fit netlist.entry.image.now state.now }
 {
-    let channels = netlist.channels();
-    let mut fit = true;
-    for c in 0..channels {
-        let channel = netlist.channel(c);
-        let at = 8 * c as usize;
-        let mut row = true;
-        let mut held: u16 = 0;
-        for j in 0..channel.stations {
-            let station = state.stations[at + j as usize];
-            row = row & (station.count <= Station::DEPTH);
-            held += station.count as u16;
-        }
-        let mark = state.pending[c as usize];
-        let queue = state.queues[c as usize];
-        let from = state.nodes[channel.from as usize];
-        let to = state.nodes[channel.to as usize];
-        let counts = (mark <= 1) & (row & (queue.count <= channel.depth));
-        fit = fit & (counts & balanced(mark, held, queue.count, from.firings, to.firings));
-    }
-    fit
+    (0..netlist.channels()).all(|c| channel_fits(netlist, state, c))
+}
+
+// A channel: places that no station of the image and no held token uses are 0.
+#[tactic(auto, using(netlist::specs::AcceptedLaws::channels_few))]
+fn channel_clear(netlist: Netlist, state: &State, c: u8) -> bool
+    requires { c < channels netlist.image.now }
+    ensures { result ≡ channel_clear netlist.entry.image.now state.now c }
+{
+    let start = 8 * usize::from(c);
+    let end = start + usize::from(netlist.channel(c).stations);
+    let used = state.stations[start..end]
+        .iter()
+        .all(|station| station.clear());
+    let unused = state.stations[end..start + Row::LENGTH as usize]
+        .iter()
+        .all(|station| empty_station(*station));
+    (used & unused) & clear_queue(state.queues[usize::from(c)])
 }
 
 // Places that no channel, no station of the image and no held token uses are 0.
 pub(crate) fn channels_clear(netlist: Netlist, state: &State) -> bool
     ensures { result ≡ channels_clear netlist.entry.image.now state.now }
 {
-    let channels = netlist.channels();
-    let mut clear = true;
-    for c in 0..State::CHANNELS {
-        let there = c < channels;
-        let channel = netlist.channel(c);
-        let at = 8 * c as usize;
-        let mut row = true;
-        for j in 0..Row::LENGTH {
-            let station = state.stations[at + j as usize];
-            row = row & clear_station(station, there & (j < channel.stations));
-        }
-        let mark = state.pending[c as usize];
-        let queue = state.queues[c as usize];
-        clear = clear & (((there | (mark == 0)) & row) & clear_queue(queue, there));
-    }
-    clear
+    let channels = usize::from(netlist.channels());
+    let used = (0..netlist.channels()).all(|c| channel_clear(netlist, state, c));
+    let marks = state.pending[channels..].iter().all(|mark| *mark == 0);
+    let stations = state.stations[8 * channels..]
+        .iter()
+        .all(|station| empty_station(*station));
+    let queues = state.queues[channels..]
+        .iter()
+        .all(|queue| empty_queue(*queue));
+    ((used & marks) & stations) & queues
 }

@@ -15,8 +15,10 @@ use refusal::Refusal;
 const LAST: u32 = 1000000;
 
 // What a cycle needs of an image: how many nodes there are, each one's kind, and the node that feeds
-// each port, three places a node. The nodes' values stand in 65 places: place 64 is no node's and
-// stays 0, for ports that no channel feeds.
+// each port, three places a node, flat as the definition of ports has them. Kinds and feeders are arrays
+// of their own: with kinds and values in one struct a run took a tenth longer (docs/PERFORMANCE.md). The
+// nodes' values stand in 65 places: place 64 is no node's and stays 0, for ports that no channel feeds, so
+// that a cycle reads all three ports of each node without a test.
 #[derive(Drop)]
 struct System {
     nodes: usize,
@@ -61,7 +63,7 @@ impl System {
         self.kinds[n].next(values[n], a, b, c)
     }
 
-    // The values after a cycle.
+    // The values after a cycle. By index, since every node is worked from the same values.
     #[tactic(auto, using(laws::specs::TableLaws::over_next), unfolding(crate::specs::System::values_after, laws::specs::Table::table_over, laws::specs::Table::table))]
     fn after(&self, values: &[i32; 65]) -> [i32; 65]
         ensures { result ≡ values_after self.now values.now }
@@ -74,7 +76,7 @@ impl System {
     }
 }
 
-// The node that feeds each port.
+// The node that feeds each port, written at the place that each channel names.
 #[tactic(auto, unfolding(crate::specs::Decoded::feeders_below, netlist::specs::Ports::ports_below, netlist::specs::Readers::channel_at))]
 fn feeders_of(netlist: Netlist) -> [u8; 192]
     ensures { result ≡ feeders_below netlist.entry.image.now (channels netlist.entry.image.now) }
@@ -87,7 +89,7 @@ fn feeders_of(netlist: Netlist) -> [u8; 192]
     feeders
 }
 
-// The values of cycle 0: all parameters.
+// The values of cycle 0: all parameters. By index, since the netlist is asked for each node by its number.
 #[tactic(auto, using(laws::specs::TableLaws::padded_next), unfolding(crate::specs::Decoded::values_at, crate::specs::Strict::strict_cycle, laws::specs::Table::table, laws::specs::Lists::padded, netlist::specs::Readers::core_at))]
 fn first(netlist: Netlist) -> [i32; 65]
     ensures { result ≡ values_at netlist.entry.image.now 0 }

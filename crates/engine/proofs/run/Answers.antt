@@ -31,9 +31,6 @@ few c =
     let f = taken_few c.nodes.result a.state.cycles a.words.now c.in-Ok.ensures.fitting.cycled in
     (omega (arith, e, f), omega (arith, e, f))
 
-pub words_taken-taken-requires : goal.words_taken-taken-requires
-words_taken-taken-requires c = c.in-Ok.ensures.fitting.cycled
-
 pub overflow_cast-result : goal.overflow_cast-result
 overflow_cast-result c = omega (arith, few (goal.at.overflow_cast-result c).After-words_taken-taken)
 
@@ -41,9 +38,6 @@ pub slice_bounds-cycles-end : goal.slice_bounds-cycles-end
 slice_bounds-cycles-end c =
     let t = c.words_taken-taken.result.steps in
     omega (arith, few (goal.at.slice_bounds-cycles-end c).After-words_taken-taken, length-take t c.args.words.now)
-
-pub cycles-last-requires-clause-fitting : goal.cycles-last-requires-clause-fitting
-cycles-last-requires-clause-fitting c = c.in-Ok.ensures.fitting
 
 pub cycles-last-requires-clause-words_bound : goal.cycles-last-requires-clause-words_bound
 cycles-last-requires-clause-words_bound c =

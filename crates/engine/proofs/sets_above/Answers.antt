@@ -1,18 +1,28 @@
 -- `engine::sets_above` meets its contract. Assumes nothing.
-use mathlib.Core.Path.{refl}
-use Prim.Native.Nat.{◌<◌, ◌≤◌, ◌^◌}
+use Rattle.std.proofs.Common.{◌≡◌, ◌<◌, ◌≤◌, ◌^◌, ◌/◌, arith, sym, rules, tests}
+use Rattle.std.specs.Prelude.{Option, Some, None, Bool, false, ℕ, not, eqb}
+use Rattle.std.specs.Option.{SomeIff, MatchOption}
 use native.Mathlib.Nat.{div-eq_of_lt, lt_of_lt_of_le}
-use native.Mathlib.Omega.{arith}
 use lib.Pow.{pow_mono}
 use Rattle.engine.specs.Answer.{sets_above}
 use Rattle.engine.proofs.sets_above.Goals as goal
 
-pub returns-then-n-ge64 : goal.returns-then-n-ge64
+-- a word has no bit from 64 on
+none_above : (word n : ℕ) → word < 2 ^ 64 → (n < 64 → ⊥) → sets_above n word ≡ false
 unfolding sets_above
-returns-then-n-ge64 c = let l : 64 ≤ c.args.n = omega arith in
-    let h : c.args.word < 2 ^ c.args.n = lt_of_lt_of_le c.ranges.word.fits (pow_mono l) in
-    rw (div-eq_of_lt h)
+none_above word n fits h =
+    let l : 64 ≤ n = omega (arith, h) in
+    rw (div-eq_of_lt (lt_of_lt_of_le fits (pow_mono l)))
+
+-- the answer, by what is left of the word where it is shifted
+shifted :
+    (word n : ℕ) → word < 2 ^ 64 → (o : Option ℕ) (r : Bool) {Q : ℕ → Type 0}
+    → SomeIff o (n < 64) (word / 2 ^ n) → MatchOption o (r ≡ false) Q → ((x : ℕ) → Q x → r ≡ not (eqb x 0)) → r ≡ sets_above n word
+unfolding sets_above
+shifted word n fits None r past e says = rw e (sym (none_above word n fits past))
+shifted word n fits (Some x) r there e says = rw (← there.1) (says x e)
 
 pub returns : goal.returns
-unfolding sets_above
-returns c = refl
+returns c =
+    shifted c.args.word c.args.n c.ranges.word.fits c.checked_shr.result c.is_some_and.result (rw c.from.ensures at c.checked_shr.ensures)
+    c.is_some_and.ensures (λ x q. search (rules, tests))

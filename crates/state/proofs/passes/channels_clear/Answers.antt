@@ -1,36 +1,38 @@
--- `state::passes::channels_clear` meets its contract. The invariants: the channels below c are clear, and of channel c the stations below j.
--- Assumes nothing.
-use mathlib.Core.Path.{◌≡◌, refl}
-use native.Mathlib.Numerals.{add-one}
-use native.Mathlib.Omega.{arith}
-use Rattle.laws.specs.Below.{all_below}
-use Rattle.netlist.specs.Readers.{channel_at}
-use Rattle.state.specs.State.{mark_at, station_at, queue_at}
-use Rattle.state.specs.Fits.{mark_clear, station_clear, queue_clear}
-use Rattle.state.specs.FitsPasses.{clear_station, clear_queue, channel_clear, channels_clear}
+-- `state::passes::channels_clear` meets its contract. Assumes nothing.
+use Rattle.std.proofs.Common.{rules, tests, ◌≡◌, ◌*◌, ◌-◌, ◌∙◌, arith, length, take, drop, refl}
+use Rattle.std.specs.Prelude.{eqb}
+use Rattle.std.proofs.lemmas.Iterator.{YieldsList-from_slice, YieldsList-from_range}
+use Rattle.std.proofs.lemmas.Iterator.Search.{all_from_yields_List}
+use Rattle.laws.specs.BelowLaws.{all_range}
+use Rattle.netlist.specs.Image.{channels}
+use Rattle.relay.specs.RowCycle.{no_station}
+use Rattle.state.specs.State.{no_queue, mark_at, queue_at}
+use Rattle.state.specs.Fits.{mark_clear}
+use Rattle.state.specs.FitsPasses.{empty_station, empty_queue, channel_clear, place_clear, queue_empty, channels_clear}
+use Rattle.state.proofs.Listed.{behind}
 use Rattle.state.proofs.passes.channels_clear.Goals as goal
 
-pub loop-c-init : goal.loop-c-init
-unfolding all_below
-loop-c-init c = (omega arith, refl)
-
-pub loop-j-init : goal.loop-j-init
-unfolding all_below
-loop-j-init c = (omega arith, refl)
-
-pub loop-j-preserved : goal.loop-j-preserved
-unfolding all_below station_at station_clear clear_station channel_at
-loop-j-preserved c =
-    (omega arith, rw (add-one, c.clear_station-row.ensures, c.loop-j.invariant.1, c.channel-channel.ensures.value, c.channels-channels.ensures.value))
-
-pub loop-c-preserved : goal.loop-c-preserved
-unfolding all_below mark_at queue_at mark_clear queue_clear clear_queue channel_clear
-loop-c-preserved c =
-    let e : c.loop-j.j ≡ 8 = omega arith in
-    (omega arith, rw (add-one, c.clear_queue.ensures, c.loop-j.invariant.1, e, c.loop-c.invariant.1, c.channels-channels.ensures.value))
-
 pub returns : goal.returns
-unfolding channels_clear
+unfolding channels_clear mark_clear mark_at place_clear queue_empty queue_at
 returns c =
-    let e : c.loop-c.c ≡ 96 = omega arith in
-    rw (c.loop-c.invariant.1, e)
+    let img = c.args.netlist.image.now in
+    let s = c.args.state.now in
+    let n = c.from-channels.result in
+    let m = c.channels-2.result in
+    let same : n ≡ channels img = search rules in
+    let marks_long : length s.pending ≡ 96 = search rules in
+    let stations_long : length s.stations ≡ 768 = search rules in
+    let queues_long : length s.queues ≡ 96 = search rules in
+    let used = all_from_yields_List (channel_clear img s) _ _ _ c.all-used.ensures.ran (YieldsList-from_range 0 m m refl (omega arith)) (λ x b q k. search (rules, tests)) ∙ all_range (channel_clear img s) m in
+    let marks = all_from_yields_List (λ x. eqb x 0) _ _ _ c.all-marks.ensures.ran (YieldsList-from_slice (take (96 - n) (drop n s.pending)) cc) (λ x b q k. search (rules, tests)) in
+    let places = all_from_yields_List empty_station _ _ _ c.all-stations.ensures.ran (YieldsList-from_slice (take (768 - 8 * n) (drop (8 * n) s.stations)) cc) (λ x b q k. search (rules, tests)) in
+    let queues = all_from_yields_List empty_queue _ _ _ c.all-queues.ensures.ran (YieldsList-from_slice (take (96 - n) (drop n s.queues)) cc) (λ x b q k. search (rules, tests)) in
+    let up : m ≡ channels img = search rules in
+    rw (
+      used,
+      marks ∙ behind (λ x. eqb x 0) 0 s.pending n 96 marks_long,
+      places ∙ behind empty_station no_station s.stations (8 * n) 768 stations_long,
+      queues ∙ behind empty_queue no_queue s.queues n 96 queues_long,
+      up,
+      same,
+    )

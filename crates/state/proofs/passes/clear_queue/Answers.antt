@@ -1,27 +1,20 @@
--- `state::passes::clear_queue` meets its contract. The loop's invariant: the tokens looked at so far. Assumes nothing.
-use mathlib.Core.Path.{◌≡◌, refl}
-use native.Mathlib.Numerals.{add-one}
-use native.Mathlib.Omega.{arith}
-use lib.IntN.{pos}
-use lib.ListN.{get_or}
-use Rattle.laws.specs.Below.{all_below}
+-- `state::passes::clear_queue` meets its contract. Assumes nothing.
+use Rattle.std.proofs.Common.{rules, tests, ◌≡◌, ◌∙◌, length}
+use Rattle.std.specs.Prelude.{pos}
+use Rattle.std.proofs.lemmas.Iterator.{YieldsList-from_slice}
+use Rattle.std.proofs.lemmas.Iterator.Adapters.{YieldsList-from_skip}
+use Rattle.std.proofs.lemmas.Iterator.Search.{all_from_yields_List}
 use Rattle.laws.specs.Lists.{zero_from}
-use Rattle.laws.specs.SignedLaws.{told, zero_bits}
-use Rattle.state.specs.FitsPasses.{clear_queue}
+use Rattle.laws.specs.Signed.{is_zero}
+use Rattle.laws.specs.SignedLaws.{zero_bits}
+use Rattle.state.proofs.Listed.{rest}
 use Rattle.state.proofs.passes.clear_queue.Goals as goal
 
-pub loop-i-init : goal.loop-i-init
-unfolding all_below zero_from
-loop-i-init c = (omega arith, refl)
-
-pub loop-i-preserved : goal.loop-i-preserved
-unfolding all_below zero_from
-loop-i-preserved c =
-    let token = get_or c.args.queue.tokens c.loop-i.i (pos 0) in
-    (omega arith, rw (add-one, zero_bits token (told token c.token-1.given), c.loop-i.invariant.1))
-
 pub returns : goal.returns
-unfolding clear_queue
+unfolding zero_from
 returns c =
-    let e : c.loop-i.i ≡ 8 = omega arith in
-    rw (c.loop-i.invariant.1, e)
+    let all = c.args.queue.tokens in
+    let n = c.args.queue.count in
+    let long : length all ≡ 8 = search rules in
+    all_from_yields_List is_zero _ _ _ c.all.ensures.ran (YieldsList-from_skip n (YieldsList-from_slice all cc) cc) (λ x b q k. search (rules, tests, zero_bits))
+    ∙ rest is_zero (pos 0) all n 8 long
