@@ -94,7 +94,7 @@ fn put_signed(value: i32, out: &mut [u8], at: usize) -> usize
     requires { at + length (signed_text value) ≤ length out.old }
     ensures { Put (signed_text value) at out.old out.new result }
 {
-    let distance = output::magnitude(value);
+    let distance = value.unsigned_abs() as u64;
     if value < 0 {
         out[at] = b'-';
         return put_decimal(distance, out, at + 1);
@@ -106,7 +106,7 @@ fn put_signed(value: i32, out: &mut [u8], at: usize) -> usize
 fn signed_length(token: i32) -> usize
     ensures { (result ≡ length (signed_text token)) × (result ≤ 11) }
 {
-    let count = digits(output::magnitude(token));
+    let count = digits(token.unsigned_abs() as u64);
     if token < 0 { count + 1 } else { count }
 }
 
