@@ -3,7 +3,8 @@
 // for each cycle, and a closing line.
 #![tactic(auto)]
 
-ghost use Rattle.std.specs.Prelude.{not, ◌&&◌, ◌≡◌, ◌≤◌, eqb, ltb, length, get_or};
+ghost use Rattle.std.specs.Prelude.{not, ◌&&◌, ◌≡◌, ◌≤◌, eqb, ltb, length, get_or, drop};
+ghost use Rattle.std.specs.Simd.{first_chunks};
 ghost use Rattle.io.specs.Counts.{IsPrefixLen};
 ghost use Rattle.laws.specs.Table.{table};
 ghost use Rattle.state.specs.State.{firings_at};
@@ -48,24 +49,26 @@ pub fn image_length(input: &[u8]) -> usize
     image_due(input).min(input.len())
 }
 
+// The whole words that follow the image.
+fn whole_words(input: &[u8]) -> &[[u8; 8]]
+    ensures value { result.now ≡ first_chunks 8 (word_count input.now) (drop (length (image_of input.now)) input.now) }
+    ensures len { length result.now ≡ word_count input.now }
+{
+    input[image_length(input)..].as_chunks::<8>().0
+}
+
 // How many whole words follow the image.
 pub fn words(input: &[u8]) -> usize
     ensures { result ≡ word_count input.now }
 {
-    (input.len() - image_length(input)) / 8
+    whole_words(input).len()
 }
 
 // Word k of the input, 0 past the last.
 pub fn word_at(input: &[u8], k: usize) -> u64
     ensures { result ≡ get_or (words_of input.now) k 0 }
 {
-    if words(input) <= k {
-        return 0;
-    }
-    let at = image_due(input) + 8 * k;
-    let low = netlist::four_bytes(input, at);
-    let high = netlist::four_bytes(input, at + 4);
-    low + 4294967296 * high
+    u64::from_le_bytes(whole_words(input).get(k).copied().unwrap_or([0; 8]))
 }
 
 // Number 12: whether some word sets a bit at or above N.
@@ -73,23 +76,17 @@ fn any_above(input: &[u8]) -> bool
     ensures { result ≡ any_above input.now }
 {
     let n = netlist::nodes(input);
-    let count = words(input);
-    let mut any = false;
-    for k in 0..count {
-        let word = word_at(input, k);
-        any = any | engine::sets_above(word, n);
-    }
-    any
+    (0..words(input)).any(|k| engine::sets_above(word_at(input, k), n))
 }
 
 // Whether the judge refuses before it would look at what follows an image.
 fn found_early(judged: Result<(), Refusal>) -> bool
     ensures { result ≡ (not (eqb (number_of judged) 0) && ltb (number_of judged) 4) }
 {
-    match judged {
-        Err(refusal) => refusal.number() < 4,
-        Ok(()) => false,
-    }
+    matches!(
+        judged,
+        Err(Refusal::Short | Refusal::Sizes | Refusal::Length)
+    )
 }
 
 // Whether an input of `size` bytes that begins with `head` is refused. With the first 33,570 bytes, or all
@@ -130,19 +127,13 @@ fn readings(letters: &[u8; 96], values: &[i32; 96]) -> [Reading; 96]
 // One cycle with a stall word, and its line at the start of `out`. It is refused like a step, and then
 // where `out` is shorter than the line, which has 1,259 bytes at most; then nothing is written, and the
 // state that was handed in is handed back.
-// Where this is inlined LLVM takes the states apart into single numbers, and builds for minutes.
-#[inline(never)]
 pub fn cycle_line(image: &[u8], state: State, word: u64, out: &mut [u8]) -> Result<Lined, Refused>
     ensures line_done { LineDone image.now state word out.old (line_told result) out.new }
     ensures number_value { 1259 ≤ length out.old → (line_told result).number ≡ step_number image.now state word 96 96 }
 {
     let mut letters = [0u8; 96];
     let mut values = [0i32; 96];
-    // And so it does where a state is handed on by `?`.
-    let after = match engine::step(image, state, word, &mut letters, &mut values) {
-        Ok(after) => after,
-        Err(refused) => return Err(refused),
-    };
+    let after = engine::step(image, state, word, &mut letters, &mut values)?;
     let channels = netlist::channels(image) as usize;
     let row = readings(&letters, &values);
     match text::cycle_line(state.cycles, &row[..channels], out) {
