@@ -19,7 +19,9 @@ ghost use Rattle.text.specs.Write.{WriteDone};
 use refusal::Refusal;
 use relay::Reading;
 
-// ---- parts of a text. Each is stored from a place on; the answer is the place after it.
+// ---- parts of a text. Each is stored from a place on; the answer is the place after it. A struct of the
+// slice and the place would be no plainer: a contract names the bytes and the place before and after, and
+// C's callers lend the slice alone.
 
 // A way to write items of a type.
 pub trait Text<T: Copy> {
@@ -217,7 +219,8 @@ pub fn closing_line(firings: &[u32], out: &mut [u8]) -> Result<usize, Refusal>
     line::<Counts, u32>(b"fired", firings, out)
 }
 
-// The line of a refusal. A slice of 19 bytes is always enough.
+// The line of a refusal. A slice of 19 bytes is always enough. The number is any: a `Refusal` would ask
+// more of the caller.
 #[tactic(auto, unfolding(crate::specs::Lines::refused_text, crate::specs::Lines::word_text, crate::specs::Ascii::ascii))]
 pub fn refused_line(number: u8, out: &mut [u8]) -> Result<usize, Refusal>
     ensures write_done { WriteDone (refused_text number) out.old result out.new }

@@ -127,13 +127,19 @@ fn readings(letters: &[u8; 96], values: &[i32; 96]) -> [Reading; 96]
 // One cycle with a stall word, and its line at the start of `out`. It is refused like a step, and then
 // where `out` is shorter than the line, which has 1,259 bytes at most; then nothing is written, and the
 // state that was handed in is handed back.
+// Where this is inlined LLVM takes the states apart into single numbers, and builds for minutes.
+#[inline(never)]
 pub fn cycle_line(image: &[u8], state: State, word: u64, out: &mut [u8]) -> Result<Lined, Refused>
     ensures line_done { LineDone image.now state word out.old (line_told result) out.new }
     ensures number_value { 1259 ≤ length out.old → (line_told result).number ≡ step_number image.now state word 96 96 }
 {
     let mut letters = [0u8; 96];
     let mut values = [0i32; 96];
-    let after = engine::step(image, state, word, &mut letters, &mut values)?;
+    // And so it does where a state is handed on by `?`.
+    let after = match engine::step(image, state, word, &mut letters, &mut values) {
+        Ok(after) => after,
+        Err(refused) => return Err(refused),
+    };
     let channels = netlist::channels(image) as usize;
     let row = readings(&letters, &values);
     match text::cycle_line(state.cycles, &row[..channels], out) {

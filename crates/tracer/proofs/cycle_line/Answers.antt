@@ -2,7 +2,6 @@
 use mathlib.Core.Path.{◌≡◌, refl, sym, ap, ◌∙◌}
 use Prim.Native.Nat.{◌≤◌}
 use native.Mathlib.Omega.{arith}
-use Rattle.std.proofs.Common.{Err, rules}
 use lib.ListN.{length, take}
 use lib.Seq.{length-take-le}
 use Rattle.laws.specs.TableLaws.{length-table}
@@ -14,22 +13,17 @@ use Rattle.tracer.specs.DoneLaws.{step-number, step-accepted, step-state, step_t
 use Rattle.tracer.proofs.cycle_line.Goals.{After-readings-row}
 use Rattle.tracer.proofs.cycle_line.Goals as goal
 
-pub returns-in_err-after-clause-line_done : goal.returns-in_err-after-clause-line_done
-returns-in_err-after-clause-line_done c =
+pub returns-in-Err-clause-line_done : goal.returns-in-Err-clause-line_done
+returns-in-Err-clause-line_done c =
     let a = c.args in
-    let r = c.in_err-after.field-0.0 in
-    let e : c.from_residual.result ≡ Err r = search rules in
-    let d = rw c.in_err-after.was at c.step.ensures in
+    let r = c.in-Err.refused in
+    let d = c.in-Err.ensures in
     let p = number_positive r.refusal in
     let n : number r.refusal ≡ 0 → ⊥ = λ z. absurd (omega (arith, z, p)) in
-    rw (e, step_refused d refl refl n) (line_refused a.image.now a.state a.word a.out.now (step-number d refl refl) n)
+    rw (step_refused d refl refl n) (line_refused a.image.now a.state a.word a.out.now (step-number d refl refl) n)
 
-pub returns-in_err-after-clause-number_value : goal.returns-in_err-after-clause-number_value
-returns-in_err-after-clause-number_value c =
-    let r = c.in_err-after.field-0.0 in
-    let e : c.from_residual.result ≡ Err r = search rules in
-    let d = rw c.in_err-after.was at c.step.ensures in
-    λ h. rw e (step-number d refl refl)
+pub returns-in-Err-clause-number_value : goal.returns-in-Err-clause-number_value
+returns-in-Err-clause-number_value c = λ h. step-number c.in-Err.ensures refl refl
 
 -- a reading for each channel
 long : (c : After-readings-row) → length c.readings-row.result ≡ 96
@@ -37,7 +31,7 @@ long c = ap length c.readings-row.ensures ∙ length-table _ 96
 
 enough : (c : After-readings-row) → c.channels-channels.result ≤ length c.readings-row.result
 enough c =
-    let h = (step-accepted (rw c.in_ok-after.was at c.step.ensures) refl refl refl).1 in
+    let h = (step-accepted c.in-Ok.ensures refl refl refl).1 in
     omega (arith, h, c.channels-channels.ensures, long c)
 
 few : (c : After-readings-row) → length (take c.channels-channels.result c.readings-row.result) ≤ 96
@@ -46,7 +40,7 @@ few c = omega (arith, length-take-le c.channels-channels.result c.readings-row.r
 -- what is written is the cycle's line
 shown :
     (c : After-readings-row) → line_text c.args.state.cycles (take c.channels-channels.result c.readings-row.result) ≡ cycle_text c.args.image.now c.args.state
-shown c = rw c.channels-channels.ensures (step_text (rw c.in_ok-after.was at c.step.ensures) refl refl refl c.readings-row.ensures)
+shown c = rw c.channels-channels.ensures (step_text c.in-Ok.ensures refl refl refl c.readings-row.ensures)
 
 pub slice_bounds-row-end : goal.slice_bounds-row-end
 slice_bounds-row-end c = enough (goal.at.slice_bounds-row-end c).After-readings-row
@@ -55,25 +49,25 @@ pub slice_bounds-cycle_line-end : goal.slice_bounds-cycle_line-end
 slice_bounds-cycle_line-end c =
     sym (length-take-le c.channels-channels.result c.readings-row.result (enough (goal.at.slice_bounds-cycle_line-end c).After-readings-row))
 
-pub returns-in-Ok-clause-line_done : goal.returns-in-Ok-clause-line_done
-returns-in-Ok-clause-line_done c =
+pub returns-in-Ok-cycle_line-clause-line_done : goal.returns-in-Ok-cycle_line-clause-line_done
+returns-in-Ok-cycle_line-clause-line_done c =
     let a = c.args in
-    let k = (goal.at.returns-in-Ok-clause-line_done c).After-readings-row in
-    let d = rw c.in_ok-after.was at c.step.ensures in
-    line_written a.image.now a.state a.word a.out.now (step-number d refl refl) (shown k) c.in-Ok.ensures.write_done (step-state d refl refl refl)
+    let k = (goal.at.returns-in-Ok-cycle_line-clause-line_done c).After-readings-row in
+    let d = c.in-Ok.ensures in
+    line_written a.image.now a.state a.word a.out.now (step-number d refl refl) (shown k) c.in-Ok-cycle_line.ensures.write_done (step-state d refl refl refl)
 
-pub returns-in-Ok-clause-number_value : goal.returns-in-Ok-clause-number_value
-returns-in-Ok-clause-number_value c = λ h. step-number (rw c.in_ok-after.was at c.step.ensures) refl refl
+pub returns-in-Ok-cycle_line-clause-number_value : goal.returns-in-Ok-cycle_line-clause-number_value
+returns-in-Ok-cycle_line-clause-number_value c = λ h. step-number c.in-Ok.ensures refl refl
 
-pub returns-in-Err-clause-line_done : goal.returns-in-Err-clause-line_done
-returns-in-Err-clause-line_done c =
+pub returns-in-Err-cycle_line-clause-line_done : goal.returns-in-Err-cycle_line-clause-line_done
+returns-in-Err-cycle_line-clause-line_done c =
     let a = c.args in
-    let k = (goal.at.returns-in-Err-clause-line_done c).After-readings-row in
-    line_long a.image.now a.state a.word a.out.now (step-number (rw c.in_ok-after.was at c.step.ensures) refl refl) (shown k) c.in-Err.ensures.write_done
+    let k = (goal.at.returns-in-Err-cycle_line-clause-line_done c).After-readings-row in
+    line_long a.image.now a.state a.word a.out.now (step-number c.in-Ok.ensures refl refl) (shown k) c.in-Err-cycle_line.ensures.write_done
 
-pub returns-in-Err-clause-number_value : goal.returns-in-Err-clause-number_value
-returns-in-Err-clause-number_value c =
-    let p = number_positive c.in-Err.refusal in
+pub returns-in-Err-cycle_line-clause-number_value : goal.returns-in-Err-cycle_line-clause-number_value
+returns-in-Err-cycle_line-clause-number_value c =
+    let p = number_positive c.in-Err-cycle_line.refusal in
     λ h.
-    let z = c.in-Err.ensures.number_value (omega (arith, h, few (goal.at.returns-in-Err-clause-number_value c).After-readings-row)) in
+    let z = c.in-Err-cycle_line.ensures.number_value (omega (arith, h, few (goal.at.returns-in-Err-cycle_line-clause-number_value c).After-readings-row)) in
     absurd (omega (arith, z, p))
