@@ -1,6 +1,6 @@
 -- Laws of bytes: what the writers and the readers do part by part. Assumes nothing.
 use Rattle.std.specs.Prelude.{◌≡◌, refl, ℕ, ◌+◌, ◌*◌, ◌^◌, ◌<◌, ◌≤◌, ℤ, pos, negsuc, length, get_or, drop}
-use Rattle.std.proofs.Common.{◌∙◌, drop_of_length-le}
+use Rattle.std.proofs.Common.{sym, ◌∙◌, drop_of_length-le}
 use mathlib.Core.List.{List, [], ◌∷◌, ◌++◌, append-nil, flat_map}
 use native.Mathlib.Omega.{arith}
 use Rattle.std.proofs.Math.ListN.{length-append}
@@ -58,6 +58,10 @@ pub each_own :
     → Put (flat_map f l) at old new end → Put (each f (λ i. get_or l i d) n) at old new end
 each_own f l d e p = rw (← e, flat_own f l d) p
 
+-- so of the tokens of a station or a queue
+pub tokens_own : (tokens : List ℤ) {n : ℕ} → length tokens ≡ n → flat_map token_bytes tokens ≡ each token_bytes (λ i. get_or tokens i (pos 0)) n
+tokens_own tokens e = rw (← e) (sym (flat_own token_bytes tokens (pos 0)))
+
 pub word_long : (n : ℕ) → length (word_bytes n) ≡ 4
 unfolding word_bytes
 word_long n = refl
@@ -101,6 +105,16 @@ state_long s =
       each_long station_bytes 9 station_long,
       each_long queue_bytes 33 queue_long,
     ) refl
+
+-- where its marks end
+pub end_marks :
+    (s : State) {i j k : ℕ} {a b c d : List ℕ} → length s.nodes ≡ 64 → length s.pending ≡ 96
+    → Put (word_bytes s.cycles) 0 a b i → Put (flat_map node_bytes s.nodes) i b c j → Put s.pending j c d k
+    → (k ≡ 612) × (length d ≡ length a)
+end_marks s nodes marks p q r =
+    let first = end_word s.cycles p in
+    let second = end_all node_bytes 8 node_long s.nodes nodes q in
+    (omega (arith, first, second, r.next, marks), omega (arith, first, second, put_long r))
 
 pub state-put :
     (s : State) {i j k m end : ℕ} {a b c d e f : List ℕ} → length s.pending ≡ 96

@@ -1,5 +1,5 @@
 -- What each way out of the calls has done. Assumes nothing.
-use Rattle.std.specs.Prelude.{true, false, List, ◌++◌, ◌≡◌, ℕ, ◌≤◌, ◌<◌, ℤ, length, drop, Result}
+use Rattle.std.specs.Prelude.{true, false, List, ◌++◌, ◌≡◌, ℕ, ◌≤◌, ◌<◌, ℤ, length, drop, Result, Option, None, Some, unwrap_or}
 use Rattle.std.proofs.Common.{true≢false, ◌∙◌, arith}
 use Rattle.std.proofs.Math.Logic.{⊎_elim}
 use Rattle.std.proofs.Math.Path.{sym, ap}
@@ -17,7 +17,10 @@ use Rattle.engine.specs.Answer.{step_number, step_of, step_answer, RunTold}
 use Rattle.engine.specs.AnswerLaws.{number_ok, state_ok, run_none}
 use Rattle.engine.specs.Done.{StepDone, RunDone}
 use Rattle.engine.specs.Taken.{state_number}
+use Rattle.refusal.specs.Number.{number, number_if}
+use Rattle.refusal.specs.NumberLaws.{number_positive}
 use Rattle.refusal.specs.declared.Refusal.{Refusal}
+use Rattle.refusal.specs.declared.Refusal.TheVariants.{Room}
 use Rattle.text.specs.Write.{WriteDone, WriteTold, write_told}
 use Rattle.tracer.specs.DoneLaws.{line_made}
 use Rattle.tracer.specs.Done.{LineTold, line_answer, LineDone, ClosingDone}
@@ -64,19 +67,27 @@ module _ (old : List ℕ) {img : List ℕ} {answer : Told} (d : FreshDone img an
         over = e ∙ rw (l, d.answered);
       }
 
-  pub fresh_13 : length old < state_length → answer.number ≡ 0 → FreshCall img old 13 old
+  fresh_13 : length old < state_length → answer.number ≡ 0 → FreshCall img old 13 old
   unfolding fresh_number fresh_over
   fresh_13 h z =
       let l = lt-ltb (length old) state_length h in
       let j : judge img ≡ 0 = sym fresh-number ∙ z in
       record { numbered = rw (j, l); over = rw l }
 
-  pub fresh-judged : length old < state_length → (answer.number ≡ 0 → ⊥) → FreshCall img old answer.number old
+  fresh-judged : length old < state_length → (answer.number ≡ 0 → ⊥) → FreshCall img old answer.number old
   unfolding fresh_number fresh_over
   fresh-judged h n =
       let l = lt-ltb (length old) state_length h in
       let j = ne_eqb (judge img) 0 (λ z. n (fresh-number ∙ z)) in
       record { numbered = fresh-number ∙ rw j; over = rw l }
+
+  -- too few bytes are lent: it is refused as the judge says, or else for want of room
+  pub fresh_short :
+      length old < state_length → (refusal : Option Refusal) {n : ℕ} → answer.number ≡ number_if refusal → n ≡ number (unwrap_or refusal Room)
+      → FreshCall img old n old
+  fresh_short h None z e = rw e (fresh_13 h z)
+  fresh_short h (Some r) z e =
+      rw (e, ← z) (fresh-judged h (λ q. absurd (omega (arith, q, z, number_positive r))))
 
 -- ---- a step
 module _

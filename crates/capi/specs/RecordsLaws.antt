@@ -1,5 +1,6 @@
 -- What each way out of the benches on bytes has done. Assumes nothing.
-use Rattle.std.specs.Prelude.{Bool, false, ◌≡◌, refl, ℕ, ◌+◌, ◌*◌, ◌-◌, ◌≤◌, ◌<◌, eqb, ltb, ℤ, length, get_or, take, drop}
+use Rattle.std.specs.Prelude.{Bool, false, ◌≡◌, refl, ℕ, ◌+◌, ◌*◌, ◌-◌, ◌≤◌, ◌<◌, eqb, ltb, ℤ, length, get_or, take, drop, Result, Ok, Err}
+use Rattle.std.specs.Result.{is_ok}
 use Rattle.std.proofs.Math.Bool.{true}
 use Rattle.std.proofs.Common.{true≢false, ◌∙◌, arith, length-append, take_at}
 use mathlib.Core.List.{List, [], ◌∷◌, ◌++◌, append-nil, flat_map}
@@ -17,8 +18,10 @@ use Rattle.relay.specs.declared.Station.{Station}
 use Rattle.relay.specs.RowCycle.{no_station}
 use Rattle.relay.specs.Link.{Link}
 use Rattle.std.specs.Bool.{then_some}
-use Rattle.bench.specs.Bench.{Told, fits, bench_number, refusal, reply, bench_answer, bench_after}
-use Rattle.bench.proofs.BenchLaws.{bench_long, length_bench, station-done}
+use Rattle.bench.specs.declared.Answer.{Answer}
+use Rattle.refusal.specs.declared.Refusal.{Refusal}
+use Rattle.bench.specs.Bench.{Told, told, fits, bench_number, refusal, reply, bench_answer, bench_after}
+use Rattle.bench.proofs.BenchLaws.{refused_number, bench_long, length_bench, station-done}
 use Rattle.bench.specs.ByValue.{BenchedTold, station_benched, row_benched}
 use Rattle.bench.proofs.Kept.{accepted_long, accepted-fits}
 use Rattle.capi.specs.Bytes.{each, station_bytes, no_record, record_in, row_record, record_count, row_in}
@@ -42,6 +45,16 @@ no_record-fits = refl
 -- the first elements of a list, read one by one
 pub first_own : {A : Type 0} (l : List A) (d : A) (n : ℕ) → n ≤ length l → table (λ i. get_or l i d) n ≡ take n l
 first_own l d n h = sym (take-table (λ i. get_or l i d) n (length l) h) ∙ ap (take n) (sym (table_own l d))
+
+-- a bench that is not refused, and one that is
+pub ok_number : (answer : Result Answer Refusal) → is_ok answer ≡ true → (told answer).number ≡ 0
+ok_number (Ok a) e = refl
+ok_number (Err r) e = absurd (true≢false (sym e))
+
+pub err-number : (answer : Result Answer Refusal) → is_ok answer ≡ false → (told answer).number ≡ 0 → ⊥
+err-number answer e z =
+    let q : eqb 0 0 ≡ false = rw z at (refused_number answer e) in
+    absurd (true≢false q)
 
 -- what C is told of a call
 pub told_call :

@@ -34,7 +34,7 @@ fn number(answer: Result<(), Refusal>) -> u8
     }
 }
 
-// What stopped a run, as C is told it.
+// What refused a call or stopped a run, if anything did, as C is told it.
 fn stop_number(stopped: Option<Refusal>) -> u8
     ensures { result ≡ number_if stopped }
 {
@@ -44,21 +44,24 @@ fn stop_number(stopped: Option<Refusal>) -> u8
     }
 }
 
-// A number and a state, as C is told them: it is handed a state by a refused call too.
+// A state, and why the call was refused that returned it: C is handed a state by a refused call too.
 #[derive(Clone, Copy)]
-struct Numbered {
-    number: u8,
+struct Returned {
     state: State,
+    refusal: Option<Refusal>,
 }
 
-fn as_told(answer: Result<State, Refused>) -> Numbered
-    ensures { told answer ≡ record { number = result.number; state = result.state } }
+fn as_returned(answer: Result<State, Refused>) -> Returned
+    ensures { told answer ≡ record { number = number_if result.refusal; state = result.state } }
 {
     match answer {
-        Ok(state) => Numbered { number: 0, state },
-        Err(refused) => Numbered {
-            number: refused.refusal.number(),
+        Ok(state) => Returned {
+            state,
+            refusal: None,
+        },
+        Err(refused) => Returned {
             state: refused.state,
+            refusal: Some(refused.refusal),
         },
     }
 }
@@ -75,13 +78,12 @@ pub fn channel_bench_judge(image: &[u8]) -> u8
 pub fn channel_bench_fresh(image: &[u8], state: &mut [u8]) -> u8
     ensures { FreshCall image.now state.old result state.new }
 {
-    let fresh = as_told(State::fresh(image));
-    let number = fresh.number;
+    let fresh = as_returned(State::fresh(image));
     if read::STATE <= state.len() {
         write::put_state(fresh.state, state);
-        return number;
+        return stop_number(fresh.refusal);
     }
-    if number == 0 { 13 } else { number }
+    fresh.refusal.unwrap_or(Refusal::Room).number()
 }
 
 // One cycle with a stall word: `state` is changed in place, and the letters and values of the cycle are
@@ -132,8 +134,8 @@ pub fn channel_bench_header_line(out: &mut [u8], length: &mut usize) -> u8
 {
     let line = text::header();
     *length = 0;
-    if out.len() < 13 {
-        return 13;
+    if out.len() < line.len() {
+        return Refusal::Room.number();
     }
     *length = text::put_bytes(&line, out, 0);
     0
@@ -216,7 +218,7 @@ pub fn channel_bench_station(
     let link = valid.then_some(value);
     let benched = bench::steps::station_step(read::record_in(station), link, stop);
     let number = tell(benched.answer, letter, shown, taken);
-    if number == 0 {
+    if benched.answer.is_ok() {
         write::Stations::put(benched.after, station, 0);
     }
     number
@@ -238,7 +240,7 @@ pub fn channel_bench_row(
     let link = valid.then_some(value);
     let benched = bench::steps::row_step(read::row_in(row, count), count, link, stop);
     let number = tell(benched.answer, letter, shown, taken);
-    if number == 0 {
+    if benched.answer.is_ok() {
         write::put_row(benched.after, count, row);
     }
     number

@@ -1,4 +1,7 @@
-// A state and station records from bytes. A reader is given a place with all its bytes behind it.
+// A state and station records from bytes, at the places that the C interface gives them
+// (`include/channel_bench.h`). A reader is given a place with all its bytes behind it. One that is given a
+// chunk of its own size would be no plainer: the definitions name places (specs/Bytes.antt), and nodes,
+// stations and queues would each need a law that takes a chunk to its place.
 ghost use Rattle.std.specs.Prelude.{◌≡◌, ◌+◌, ◌*◌, ◌≤◌, length, get_or, take};
 ghost use Rattle.laws.specs.Table.{table};
 ghost use Rattle.netlist.specs.Image.{four_bytes};
@@ -17,14 +20,12 @@ const RECORD: usize = 9;
 
 // A number of four bytes, low byte first.
 fn word_in(bytes: &[u8], at: usize) -> u32
-    requires { at + 4 ≤ length bytes.now }
     ensures { result ≡ four_bytes bytes.now at }
 {
-    u32::from_le_bytes([bytes[at], bytes[at + 1], bytes[at + 2], bytes[at + 3]])
+    netlist::four_bytes(bytes, at) as u32
 }
 
 fn token_in(bytes: &[u8], at: usize) -> i32
-    requires { at + 4 ≤ length bytes.now }
     ensures { result ≡ token_in bytes.now at }
 {
     netlist::as_signed(word_in(bytes, at))
@@ -91,7 +92,8 @@ fn queues_in(bytes: &[u8]) -> [Queue; 96]
     array::from_fn(|c| queue_in(bytes, 7524 + 33 * c))
 }
 
-// What bytes that are no state are read as.
+// What bytes that are no state are read as: one that fits no image. An `Option` would be no plainer: each
+// call would say once more which numbers come before 21.
 fn no_state() -> State
     ensures { result ≡ no_state }
 {
@@ -116,7 +118,7 @@ pub(crate) fn state_in(bytes: &[u8]) -> State
     }
 }
 
-// What bytes that are no record are read as.
+// What bytes that are no record are read as: one that fits no bench, for the same reason.
 fn no_record() -> Station
     ensures { result ≡ no_record }
 {

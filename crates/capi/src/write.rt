@@ -1,7 +1,7 @@
 // A state and station records as bytes, stored from a place on; the answer is the place after them. A
 // writer is given a place with enough room behind it.
 ghost use mathlib.Core.List.{flat_map, ◌++◌};
-ghost use Rattle.std.specs.Prelude.{◌≡◌, ◌+◌, ◌*◌, ◌≤◌, length, get_or, drop};
+ghost use Rattle.std.specs.Prelude.{[], ◌∷◌, ◌≡◌, ◌+◌, ◌*◌, ◌≤◌, length, get_or, drop};
 ghost use Rattle.relay.specs.RowCycle.{no_station};
 ghost use Rattle.state.specs.State.{no_node, no_queue};
 ghost use Rattle.text.specs.Put.{Put};
@@ -45,6 +45,17 @@ impl Text<Node> for Nodes {
     }
 }
 
+// Tokens, and then how many of them are held.
+#[tactic(auto, using(text::specs::PutLaws::put_steps))]
+fn put_counted(tokens: &[i32], count: u8, out: &mut [u8], at: usize) -> usize
+    requires { at + length (flat_map token_bytes tokens.now ++ (count ∷ [])) ≤ length out.old }
+    ensures { Put (flat_map token_bytes tokens.now ++ (count ∷ [])) at out.old out.new result }
+{
+    let end = text::put_all::<Tokens, i32>(tokens, out, at);
+    out[end] = count;
+    end + 1
+}
+
 pub(crate) struct Stations;
 
 impl Text<Station> for Stations {
@@ -52,9 +63,7 @@ impl Text<Station> for Stations {
 
     fn put(item: Station, out: &mut [u8], at: usize) -> usize {
         let tokens = item.tokens;
-        let count = text::put_all::<Tokens, i32>(&tokens, out, at);
-        out[count] = item.count;
-        count + 1
+        put_counted(&tokens, item.count, out, at)
     }
 }
 
@@ -65,9 +74,7 @@ impl Text<Queue> for Queues {
 
     fn put(item: Queue, out: &mut [u8], at: usize) -> usize {
         let tokens = item.tokens;
-        let count = text::put_all::<Tokens, i32>(&tokens, out, at);
-        out[count] = item.count;
-        count + 1
+        put_counted(&tokens, item.count, out, at)
     }
 }
 

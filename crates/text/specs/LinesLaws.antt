@@ -1,4 +1,4 @@
--- Laws of the lines: what a loop over their fields has written after so many of them, and how long each part is. Assumes nothing.
+-- Laws of the lines: what a loop over their fields has written after so many of them, and what room is left. Assumes nothing.
 use mathlib.Core.List.{List, [], ◌∷◌, ◌++◌, append_assoc, append-nil, flat_map}
 use Rattle.std.proofs.Common.{⊎_elim, sym, ap, ◌∙◌, not-suc-le-zero, arith, add-one, length-append}
 use Rattle.std.specs.Prelude.{◌≡◌, ℕ, zero, suc, ◌+◌, ◌-◌, ◌<◌, ◌≤◌, ℤ, pos, length, get_or, take}
@@ -23,33 +23,6 @@ module _ {A : Type 0} (f : A → List ℕ) where
     pub flat_next : (n : ℕ) → flat_map f (table g (suc n)) ≡ flat_map f (table g n) ++ f (g n)
     unfolding table flat_map
     flat_next n = flat_append (table g n) (g n ∷ []) ∙ rw append-nil
-
-    pub length-next : (n : ℕ) → length (flat_map f (table g (suc n))) ≡ length (flat_map f (table g n)) + length (f (g n))
-    length-next n = ap length (flat_next n) ∙ length-append (flat_map f (table g n)) (f (g n))
-
-    -- what the first fields and one more take lies within what all take
-    pub flat_within : (j n : ℕ) → j < n → length (flat_map f (table g j)) + length (f (g j)) ≤ length (flat_map f (table g n))
-    flat_within j zero h = absurd (not-suc-le-zero h)
-    flat_within j (suc n) h =
-        ⊎_elim
-        (λ (q : j ≡ n). rw (q, length-next n) (omega arith))
-        (λ (l : j < n). rw (length-next n) (omega (arith, flat_within j n l)))
-        (below_suc h)
-
-    -- no field yet
-    pub flat_none : flat_map f (table g 0) ≡ []
-    unfolding table flat_map
-    flat_none = refl
-
-    -- what a field more leaves of a room
-    pub room_next : (room n : ℕ) → room - length (flat_map f (table g n)) - length (f (g n)) ≡ room - length (flat_map f (table g (n + 1)))
-    room_next room n = rw (add-one n, length-next n) (omega arith)
-
-    -- a field more, stored
-    pub put_field :
-        {at j k n : ℕ} {old mid new : List ℕ} → Put (flat_map f (table g n)) at old mid j → Put (f (g n)) j mid new k
-        → Put (flat_map f (table g (n + 1))) at old new k
-    put_field {n = n} p q = rw (add-one n, flat_next n) (put-after p q)
 
   -- ---- the items of a list one by one: x is item i
   module _ (xs : List A) (i : ℕ) (x : A) (h : i < length xs) (e : x ≡ get_or xs i x) where
@@ -83,10 +56,3 @@ module _ {A : Type 0} (f : A → List ℕ) where
   -- the fields of a list that stands there
   pub flat_own : (l : List A) (d : A) → flat_map f (table (λ i. get_or l i d) (length l)) ≡ flat_map f l
   flat_own l d = ap (flat_map f) (sym (table_own l d))
-
--- a state as a loop reads it
-pub state-read :
-    (letters : List ℕ) (values : List ℤ) (c : ℕ) {value : ℤ} → value ≡ get_or values c (pos 0)
-    → record { letter = get_or letters c 0; value = value } ≡ state_at letters values c
-unfolding state_at
-state-read letters values c e = rw e

@@ -59,11 +59,6 @@ module _ (first rest out : List ℕ) where
   pub line_none : length out - length first - length rest ≡ 0 → WriteDone (first ++ (rest ++ ascii "\n")) out (Err Room) out
   line_none e = write_none (first ++ (rest ++ ascii "\n")) out (omega (arith, e, length_line))
 
-  -- the line feed's place is there
-  pub line_inside :
-      {a b : List ℕ} {j k : ℕ} → length first + length rest < length out → Put first 0 out a j → Put rest j a b k → k < length b
-  line_inside h p q = omega (arith, h, p.next, q.next, put_long p, put_long q)
-
   pub line_made :
       {a b : List ℕ} {j k : ℕ} → length first + length rest < length out → Put first 0 out a j → Put rest j a b k
       → WriteDone (first ++ (rest ++ ascii "\n")) out (Ok (k + 1)) (set b k 10)

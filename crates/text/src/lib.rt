@@ -19,7 +19,9 @@ ghost use Rattle.text.specs.Write.{WriteDone};
 use refusal::Refusal;
 use relay::Reading;
 
-// ---- parts of a text. Each is stored from a place on; the answer is the place after it.
+// ---- parts of a text. Each is stored from a place on; the answer is the place after it. A struct of the
+// slice and the place would be no plainer: a contract names the bytes and the place before and after, and
+// C's callers lend the slice alone.
 
 // A way to write items of a type.
 pub trait Text<T: Copy> {
@@ -94,7 +96,7 @@ fn put_signed(value: i32, out: &mut [u8], at: usize) -> usize
     requires { at + length (signed_text value) ≤ length out.old }
     ensures { Put (signed_text value) at out.old out.new result }
 {
-    let distance = output::magnitude(value);
+    let distance = value.unsigned_abs() as u64;
     if value < 0 {
         out[at] = b'-';
         return put_decimal(distance, out, at + 1);
@@ -106,7 +108,7 @@ fn put_signed(value: i32, out: &mut [u8], at: usize) -> usize
 fn signed_length(token: i32) -> usize
     ensures { (result ≡ length (signed_text token)) × (result ≤ 11) }
 {
-    let count = digits(output::magnitude(token));
+    let count = digits(token.unsigned_abs() as u64);
     if token < 0 { count + 1 } else { count }
 }
 
@@ -217,7 +219,8 @@ pub fn closing_line(firings: &[u32], out: &mut [u8]) -> Result<usize, Refusal>
     line::<Counts, u32>(b"fired", firings, out)
 }
 
-// The line of a refusal. A slice of 19 bytes is always enough.
+// The line of a refusal. A slice of 19 bytes is always enough. The number is any: a `Refusal` would ask
+// more of the caller.
 #[tactic(auto, unfolding(crate::specs::Lines::refused_text, crate::specs::Lines::word_text, crate::specs::Ascii::ascii))]
 pub fn refused_line(number: u8, out: &mut [u8]) -> Result<usize, Refusal>
     ensures write_done { WriteDone (refused_text number) out.old result out.new }

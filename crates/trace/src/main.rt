@@ -29,16 +29,17 @@ const LONGEST: usize = 33570;
 // Room for every line (`tracer::cycle_line`).
 const LINE: usize = 1259;
 
-// A line: the first `length` bytes.
+// A line: the first `length` bytes. Made as a value, it has a contract, which a line that is written to a
+// stream has not. It is no `Vec`: every line has room, and no call can fail.
 #[derive(Clone, Copy)]
 struct Line {
     bytes: [u8; LINE],
     length: usize,
+    ghost prefix: { IsPrefixLen length bytes },
 }
 
 impl Line {
     fn text(&self) -> &[u8]
-        requires { IsPrefixLen self.now.length self.now.bytes }
         ensures { result.now ≡ take self.now.length self.now.bytes }
     {
         &self.bytes[..self.length]
@@ -58,10 +59,7 @@ fn written(answer: Result<usize, Refusal>) -> usize
     requires { number_of answer ≡ 0 }
     ensures { answer ≡ Ok result }
 {
-    match answer {
-        Ok(length) => length,
-        Err(_) => 0,
-    }
+    answer.unwrap_or(0)
 }
 
 fn refusal_line(refusal: Refusal) -> Line
@@ -103,9 +101,7 @@ fn closing_line(image: &[u8], state: State) -> Line
     Line { bytes, length }
 }
 
-fn print(rt: &impl Print, line: Line) -> io::Result<()>
-    requires { IsPrefixLen line.length line.bytes }
-{
+fn print(rt: &impl Print, line: Line) -> io::Result<()> {
     rt.write_all(line.text())
 }
 
@@ -115,10 +111,7 @@ fn print_cycles(rt: &impl Print, image: &[u8], input: &[u8]) -> io::Result<State
     requires input_value { input_number input.now (length input.now) ≡ 0 }
     ensures { IfOk result (λ state. state ≡ after image.now (fresh_state image.now) (words_of input.now)) }
 {
-    let mut state = match State::fresh(image) {
-        Ok(fresh) => fresh,
-        Err(refused) => refused.state,
-    };
+    let mut state = State::fresh(image).unwrap_or_else(|refused| refused.state);
     for k in 0..tracer::words(input) {
         let cycled = cycle_line(image, state, tracer::word_at(input, k));
         state = cycled.state;

@@ -1,14 +1,17 @@
 -- Laws of an input: how long its image is, where its words lie, and what its number says. Assumes nothing.
-use Rattle.std.specs.Prelude.{Bool, true, false, not, ◌||◌, List, ◌≡◌, refl, eqb, ltb, get_or, take}
-use Rattle.std.proofs.Common.{sym, ◌∙◌, add-one, eqb-true, ltb-false, ne_eqb, length-take-le}
+use Rattle.std.specs.Prelude.{Bool, true, false, not, List, ◌≡◌, refl, ◌^◌, eqb, ltb, get_or, take, drop}
+use Rattle.std.specs.Int.{from_le_bytes, w64}
+use Rattle.std.specs.Simd.{first_chunks}
+use Rattle.std.proofs.Common.{⊎_elim, sym, ap, ◌∙◌, not-suc-le-zero, mul-zero, mul-suc, eqb-true, ltb-false, ne_eqb, length-take-le, drop-drop, get_or-drop}
 use Prim.Native.Nat.{ℕ, zero, suc, ◌+◌, ◌*◌, ◌-◌, ◌/◌, ◌%◌, ◌<◌, ◌≤◌, min}
 use native.Mathlib.Omega.{arith}
 use Rattle.std.proofs.lemmas.Bool.{not-false}
-use Rattle.std.proofs.Math.ListN.{length, length-take, get_or-eq_default}
+use Rattle.std.proofs.Math.ListN.{length, length-take, replicate, get_or-eq_default}
 use Rattle.std.proofs.Math.Seq.{get_or-take}
 use Rattle.io.specs.Counts.{IsPrefixLen}
 use Rattle.laws.specs.Below.{any_below}
-use Rattle.laws.specs.BelowLaws.{any_none}
+use Rattle.laws.specs.BelowLaws.{any_none, any_same}
+use Rattle.laws.specs.Cases.{lt-or-ge}
 use Rattle.laws.specs.Choice.{◌if◌else◌}
 use Rattle.laws.specs.ChoiceLaws.{past}
 use Rattle.laws.specs.ListsLaws.{take_min}
@@ -41,6 +44,44 @@ module _ (input : List ℕ) where
   image_sizes = (get_or-take (image_due input) input 0 0 (omega arith), get_or-take (image_due input) input 1 0 (omega arith))
 
 -- ---- the words
+chunk_at : {A : Type 0} (n k : ℕ) (xs : List A) (i : ℕ) (d : List A) → i < k → get_or (first_chunks n k xs) i d ≡ take n (drop (n * i) xs)
+chunk_at n zero xs i d h = absurd (not-suc-le-zero h)
+chunk_at n (suc k) xs zero d h = rw mul-zero
+chunk_at n (suc k) xs (suc i) d h =
+    let e : n * suc i ≡ n + n * i = rw mul-suc (omega arith) in
+    chunk_at n k (drop n xs) i d (omega (arith, h)) ∙ rw (drop-drop, e)
+
+length_chunks : {A : Type 0} (n k : ℕ) (xs : List A) → length (first_chunks n k xs) ≡ k
+length_chunks n zero xs = refl
+length_chunks n (suc k) xs = ap suc (length_chunks n k (drop n xs))
+
+-- eight bytes as one number
+chunk_byte : (input : List ℕ) (at i : ℕ) → i < 8 → get_or (take 8 (drop at input)) i 0 ≡ get_or input (at + i) 0
+chunk_byte input at i h = get_or-take 8 (drop at input) i 0 h ∙ get_or-drop at input i 0
+
+chunk_word : (input : List ℕ) (at : ℕ) → from_le_bytes w64 (take 8 (drop at input)) ≡ four_bytes input at + 2 ^ 32 * four_bytes input (at + 4)
+chunk_word input at =
+    let b = chunk_byte input at in
+    let e5 : at + 4 + 1 ≡ at + 5 = omega arith in
+    let e6 : at + 4 + 2 ≡ at + 6 = omega arith in
+    let e7 : at + 4 + 3 ≡ at + 7 = omega arith in
+    let e0 : at + 0 ≡ at = omega arith in
+    rw (
+      b 0 (omega arith),
+      b 1 (omega arith),
+      b 2 (omega arith),
+      b 3 (omega arith),
+      b 4 (omega arith),
+      b 5 (omega arith),
+      b 6 (omega arith),
+      b 7 (omega arith),
+      e0,
+      e5,
+      e6,
+      e7,
+    )
+    (omega arith)
+
 module _ (input : List ℕ) where
   -- what follows the image, in whole words
   pub tail_words : (length input - length (image_of input)) / 8 ≡ word_count input
@@ -48,11 +89,6 @@ module _ (input : List ℕ) where
   tail_words =
       let e : length input - min (image_due input) (length input) ≡ length input - image_due input = omega arith in
       rw (image_length input, e)
-
-  -- all eight bytes of a word are there
-  pub word_inside : (k : ℕ) → k < word_count input → image_due input + 8 * k + 8 ≤ length input
-  unfolding word_count
-  word_inside k h = omega arith
 
   pub word_there : (k : ℕ) → k < word_count input → get_or (words_of input) k 0 ≡ word_at input k
   unfolding words_of
@@ -65,22 +101,26 @@ module _ (input : List ℕ) where
   pub word_past : (k : ℕ) → word_count input ≤ k → get_or (words_of input) k 0 ≡ 0
   word_past k h = get_or-eq_default (words_of input) 0 (rw length-words h)
 
-  -- as the code puts it together
-  pub word_joined :
-      (due k low high : ℕ) → k < word_count input → due ≡ image_due input → low ≡ four_bytes input (due + 8 * k)
-      → high ≡ four_bytes input (due + 8 * k + 4) → low + 4294967296 * high ≡ get_or (words_of input) k 0
-  unfolding word_at
-  word_joined due k low high h d l g = rw (word_there k h, ← d, l, g)
+  -- as the code reads it
+  pub word_read :
+      (k : ℕ) → from_le_bytes w64 (get_or (first_chunks 8 (word_count input) (drop (length (image_of input)) input)) k (replicate 8 0)) ≡ get_or (words_of input) k 0
+  unfolding word_at word_count
+  word_read k =
+      ⊎_elim
+      (λ (h : k < word_count input).
+      let due : length (image_of input) ≡ image_due input = omega (arith, image_length input, h) in
+      rw (chunk_at 8 (word_count input) (drop (length (image_of input)) input) k (replicate 8 0) h, drop-drop, due, word_there k h) (chunk_word input (image_due input + 8 * k)))
+      (λ (h : word_count input ≤ k).
+      let none = get_or-eq_default (first_chunks 8 (word_count input) (drop (length (image_of input)) input)) (replicate 8 0) {n = k} (rw length_chunks h) in
+      rw (word_past k h, none))
+      (lt-or-ge k (word_count input))
+
+-- as the code looks at them
+pub above_read : (input : List ℕ) → any_below (λ k. sets_above (nodes input) (get_or (words_of input) k 0)) (word_count input) ≡ any_above input
+above_read input =
+    any_same (λ k. sets_above (nodes input) (get_or (words_of input) k 0)) (above_at input) (word_count input) (λ k h. rw (word_there input k h))
 
 -- ---- the number
--- one more word is looked at
-pub above_turn :
-    (input : List ℕ) (n k word : ℕ) (any hit : Bool) → n ≡ nodes input → k < word_count input → word ≡ get_or (words_of input) k 0
-    → hit ≡ sets_above n word → any ≡ any_below (above_at input) k
-    → any || hit ≡ any_below (above_at input) (k + 1)
-unfolding any_below
-above_turn input n k word any hit e h w t a = rw (add-one, a, t, w, word_there input k h, e)
-
 -- an answer 0: no test holds
 never : (k : ℕ) (early ragged : Bool) → (suc k if early else 3 if ragged else suc k) ≡ 0 → ⊥
 never k true ragged e = omega arith

@@ -3,7 +3,8 @@
 // for each cycle, and a closing line.
 #![tactic(auto)]
 
-ghost use Rattle.std.specs.Prelude.{not, ◌&&◌, ◌≡◌, ◌≤◌, eqb, ltb, length, get_or};
+ghost use Rattle.std.specs.Prelude.{not, ◌&&◌, ◌≡◌, ◌≤◌, eqb, ltb, length, get_or, drop};
+ghost use Rattle.std.specs.Simd.{first_chunks};
 ghost use Rattle.io.specs.Counts.{IsPrefixLen};
 ghost use Rattle.laws.specs.Table.{table};
 ghost use Rattle.state.specs.State.{firings_at};
@@ -48,24 +49,26 @@ pub fn image_length(input: &[u8]) -> usize
     image_due(input).min(input.len())
 }
 
+// The whole words that follow the image.
+fn whole_words(input: &[u8]) -> &[[u8; 8]]
+    ensures value { result.now ≡ first_chunks 8 (word_count input.now) (drop (length (image_of input.now)) input.now) }
+    ensures len { length result.now ≡ word_count input.now }
+{
+    input[image_length(input)..].as_chunks::<8>().0
+}
+
 // How many whole words follow the image.
 pub fn words(input: &[u8]) -> usize
     ensures { result ≡ word_count input.now }
 {
-    (input.len() - image_length(input)) / 8
+    whole_words(input).len()
 }
 
 // Word k of the input, 0 past the last.
 pub fn word_at(input: &[u8], k: usize) -> u64
     ensures { result ≡ get_or (words_of input.now) k 0 }
 {
-    if words(input) <= k {
-        return 0;
-    }
-    let at = image_due(input) + 8 * k;
-    let low = netlist::four_bytes(input, at);
-    let high = netlist::four_bytes(input, at + 4);
-    low + 4294967296 * high
+    u64::from_le_bytes(whole_words(input).get(k).copied().unwrap_or([0; 8]))
 }
 
 // Number 12: whether some word sets a bit at or above N.
@@ -73,23 +76,17 @@ fn any_above(input: &[u8]) -> bool
     ensures { result ≡ any_above input.now }
 {
     let n = netlist::nodes(input);
-    let count = words(input);
-    let mut any = false;
-    for k in 0..count {
-        let word = word_at(input, k);
-        any = any | engine::sets_above(word, n);
-    }
-    any
+    (0..words(input)).any(|k| engine::sets_above(word_at(input, k), n))
 }
 
 // Whether the judge refuses before it would look at what follows an image.
 fn found_early(judged: Result<(), Refusal>) -> bool
     ensures { result ≡ (not (eqb (number_of judged) 0) && ltb (number_of judged) 4) }
 {
-    match judged {
-        Err(refusal) => refusal.number() < 4,
-        Ok(()) => false,
-    }
+    matches!(
+        judged,
+        Err(Refusal::Short | Refusal::Sizes | Refusal::Length)
+    )
 }
 
 // Whether an input of `size` bytes that begins with `head` is refused. With the first 33,570 bytes, or all

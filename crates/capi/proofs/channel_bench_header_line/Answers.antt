@@ -14,7 +14,7 @@ unfolding header ascii
 long = refl
 
 pub returns-then-out-lt13 : goal.returns-then-out-lt13
-returns-then-out-lt13 c = text-called (write_none header c.args.out.now (omega (arith, long)))
+returns-then-out-lt13 c = rw c.number.ensures (text-called (write_none header c.args.out.now (omega (arith, long))))
 
 pub returns : goal.returns
 returns c =

@@ -2,50 +2,42 @@
 use Rattle.std.proofs.Common.{◌≡◌, Bool, ℕ, ℤ, sym, ap, ◌∙◌, arith}
 use Rattle.std.proofs.Math.Facts.{to_z-of_z}
 use Rattle.std.specs.Bool.{then_some}
-use Rattle.bench.specs.Bench.{Told, told}
 use Rattle.bench.specs.ByValue.{BenchedTold, benched_told, station_benched}
 use Rattle.relay.specs.declared.Station.{Station}
 use Rattle.text.specs.PutLaws.{put_front}
 use Rattle.capi.specs.Bytes.{record_in}
 use Rattle.capi.specs.BytesLaws.{station_long}
-use Rattle.capi.specs.RecordsLaws.{told_call, record_sized, station-called, station_refused}
+use Rattle.capi.specs.RecordsLaws.{ok_number, err-number, told_call, record_sized, station-called, station_refused}
 use Rattle.capi.proofs.channel_bench_station.Goals.{After-tell-number}
 use Rattle.capi.proofs.channel_bench_station.Goals as goal
 
-benched : (c : After-tell-number) → BenchedTold Station
+abbrev benched : (c : After-tell-number) → BenchedTold Station
 benched c = benched_told c.station_step-benched.result
 
 done : (c : After-tell-number) → benched c ≡ station_benched (record_in c.args.station.now) (then_some c.args.valid c.args.value) c.args.stop
-unfolding benched
 done c =
     let link = c.then_some-link.ensures ∙ ap (λ (v : ℤ). then_some c.args.valid v) (to_z-of_z c.ranges.value) in
     rw (c.record_in.ensures, link) at c.station_step-benched.ensures
-
-number : (c : After-tell-number) → c.tell-number.result ≡ (benched c).answer.number
-unfolding benched
-number c = ap (λ (t : Told). t.number) c.tell-number.ensures
 
 pub put-requires : goal.put-requires
 put-requires c =
     let a = c.args in
     let d = (goal.at.put-requires c).After-tell-number in
-    omega (arith, record_sized a.station.now a.valid a.value a.stop (done d) (sym (number d) ∙ c.if-number-eq0.true), station_long c.station_step-benched.result.after)
+    omega (arith, record_sized a.station.now a.valid a.value a.stop (done d) (ok_number c.station_step-benched.result.answer (sym c.is_ok.ensures.value ∙ c.if-is_ok.true)), station_long c.station_step-benched.result.after)
 
-pub returns-then-number-eq0 : goal.returns-then-number-eq0
-unfolding benched
-returns-then-number-eq0 c =
+pub returns-then-is_ok : goal.returns-then-is_ok
+returns-then-is_ok c =
     let a = c.args in
-    let d = (goal.at.returns-then-number-eq0 c).After-tell-number in
-    let z = sym (number d) ∙ c.if-number-eq0.true in
+    let d = (goal.at.returns-then-is_ok c).After-tell-number in
+    let z = ok_number c.station_step-benched.result.answer (sym c.is_ok.ensures.value ∙ c.if-is_ok.true) in
     let long = record_sized a.station.now a.valid a.value a.stop (done d) z in
     let front = put_front (rw station_long (omega (arith, long))) c.put.ensures in
     told_call _ a.station.now a.valid a.value a.stop _ c.tell-number.ensures
     (station-called a.station.now a.valid a.value a.stop (done d) z (rw station_long at front))
 
-pub returns-else-number-eq0 : goal.returns-else-number-eq0
-unfolding benched
-returns-else-number-eq0 c =
+pub returns-else-is_ok : goal.returns-else-is_ok
+returns-else-is_ok c =
     let a = c.args in
-    let d = (goal.at.returns-else-number-eq0 c).After-tell-number in
+    let d = (goal.at.returns-else-is_ok c).After-tell-number in
     told_call _ a.station.now a.valid a.value a.stop _ c.tell-number.ensures
-    (station_refused a.station.now a.valid a.value a.stop (done d) (λ z. c.if-number-eq0.false (number d ∙ z)))
+    (station_refused a.station.now a.valid a.value a.stop (done d) (err-number c.station_step-benched.result.answer (sym c.is_ok.ensures.value ∙ c.if-is_ok.false)))

@@ -12,7 +12,7 @@ use Rattle.text.proofs.signed_length.Goals as goal
 far : (c : After-digits-count) → c.digits-count.result ≡ length (decimal (nat_abs c.args.token))
 far c =
     let f = c.ranges.token in
-    let e : c.magnitude.result ≡ nat_abs c.args.token = simp to_z-of_z at c.magnitude.ensures in
+    let e : c.unsigned_abs.result ≡ nat_abs c.args.token = simp to_z-of_z at c.unsigned_abs.ensures.value in
     rw e at c.digits-count.ensures.0
 
 pub returns-then-token-lt0 : goal.returns-then-token-lt0

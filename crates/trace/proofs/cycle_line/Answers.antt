@@ -3,6 +3,9 @@ use Rattle.text.specs.WriteLaws.{written_begins}
 use Rattle.tracer.specs.DoneLaws.{line_made}
 use Rattle.trace.proofs.cycle_line.Goals as goal
 
+pub invariant_of-result : goal.invariant_of-result
+invariant_of-result c = record { prefix = (written_begins (line_made c.in-Ok.ensures.line_done).0).counts }
+
 pub returns-in-Ok-clause-begins : goal.returns-in-Ok-clause-begins
 returns-in-Ok-clause-begins c = written_begins (line_made c.in-Ok.ensures.line_done).0
 

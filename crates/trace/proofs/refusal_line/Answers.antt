@@ -1,12 +1,22 @@
 -- `trace::refusal_line` meets its contract. Assumes nothing.
 use native.Mathlib.Omega.{arith}
+use Rattle.refusal.specs.Number.{number}
+use Rattle.text.specs.Lines.{refused_text}
+use Rattle.text.specs.Write.{Begins}
 use Rattle.text.specs.WriteLaws.{written_begins}
+use Rattle.trace.proofs.refusal_line.Goals.{After-written-length}
 use Rattle.trace.proofs.refusal_line.Goals as goal
 
 pub written-length-requires : goal.written-length-requires
 written-length-requires c = c.refused_line.ensures.number_value (omega arith)
 
-pub returns : goal.returns
-returns c =
+begins : (c : After-written-length) → Begins c.refused_line.new.out c.written-length.result (refused_text (number c.args.refusal))
+begins c =
     let d = rw c.number.ensures at c.refused_line.ensures.write_done in
     written_begins (rw c.written-length.ensures at d)
+
+pub invariant_of-result : goal.invariant_of-result
+invariant_of-result c = record { prefix = (begins (goal.at.invariant_of-result c).After-written-length).counts }
+
+pub returns : goal.returns
+returns c = begins (goal.at.returns c).After-written-length

@@ -1,17 +1,18 @@
--- `tracer::any_above` meets its contract. The invariant: what was found so far is the definition's below k. Assumes nothing.
-use mathlib.Core.Path.{refl}
-use native.Mathlib.Omega.{arith}
-use Rattle.laws.specs.Below.{any_below}
-use Rattle.tracer.specs.InputLaws.{above_turn}
+-- `tracer::any_above` meets its contract. Assumes nothing.
+use Rattle.std.proofs.Common.{◌∙◌, get_or, refl, ℕ, Bool, arith, rules}
+use Rattle.std.proofs.lemmas.Iterator.{YieldsList-from_range}
+use Rattle.std.proofs.lemmas.Iterator.Search.{any_from_yields_List}
+use Rattle.laws.specs.BelowLaws.{any_range}
+use Rattle.engine.specs.Answer.{sets_above}
+use Rattle.netlist.specs.Image.{nodes}
+use Rattle.tracer.specs.Input.{words_of}
+use Rattle.tracer.specs.InputLaws.{above_read}
 use Rattle.tracer.proofs.any_above.Goals as goal
 
-pub loop-k-init : goal.loop-k-init
-unfolding any_below
-loop-k-init c = (omega arith, refl)
-
-pub loop-k-preserved : goal.loop-k-preserved
-loop-k-preserved c = (
-  omega arith,
-  above_turn c.args.input.now _ c.loop-k.k _ _ _ c.nodes-n.ensures
-      (omega (arith, c.words-count.ensures)) c.word_at-word.ensures c.sets_above-any.ensures c.loop-k.invariant.1,
-)
+pub returns : goal.returns
+returns c =
+    let input = c.args.input.now in
+    let test : ℕ → Bool = λ k. sets_above (nodes input) (get_or (words_of input) k 0) in
+    any_from_yields_List test _ _ _ c.any.ensures.ran (YieldsList-from_range 0 c.words.result c.words.result refl (omega arith)) (λ k b q called. search rules)
+    ∙ any_range test c.words.result
+    ∙ rw c.words.ensures (above_read input)

@@ -5,9 +5,9 @@ use borrow.Author.Rules.{rules}
 use lib.ListN.{length}
 use Rattle.relay.specs.RowCycle.{no_station}
 use Rattle.state.specs.State.{no_node, no_queue}
-use Rattle.text.specs.PutLaws.{put_long, put_front}
+use Rattle.text.specs.PutLaws.{put_front}
 use Rattle.capi.specs.Bytes.{node_bytes, station_bytes, queue_bytes}
-use Rattle.capi.specs.BytesLaws.{word_long, node_long, station_long, queue_long, flat_long, end_word, end_all, each_own, state_long, state-put}
+use Rattle.capi.specs.BytesLaws.{word_long, node_long, station_long, queue_long, flat_long, end_word, end_all, each_own, state_long, end_marks, state-put}
 use Rattle.capi.proofs.write.put_state.Goals as goal
 
 pub put-first-requires : goal.put-first-requires
@@ -32,17 +32,8 @@ put_all-fourth-requires c =
     let nodes : length s.nodes ≡ 64 = search rules in
     let marks : length s.pending ≡ 96 = search rules in
     let stations : length s.stations ≡ 768 = search rules in
-    let third = c.put_bytes-third.ensures in
-    omega (
-      arith,
-      end_word c.args.state.cycles c.put-first.ensures,
-      end_all node_bytes 8 node_long s.nodes nodes c.put_all-second.ensures,
-      third.next,
-      put_long third,
-      marks,
-      flat_long station_bytes 9 station_long s.stations,
-      stations,
-    )
+    let third = end_marks s nodes marks c.put-first.ensures c.put_all-second.ensures c.put_bytes-third.ensures in
+    omega (arith, third, flat_long station_bytes 9 station_long s.stations, stations)
 
 pub put_all-requires : goal.put_all-requires
 put_all-requires c =
@@ -51,18 +42,9 @@ put_all-requires c =
     let marks : length s.pending ≡ 96 = search rules in
     let stations : length s.stations ≡ 768 = search rules in
     let queues : length s.queues ≡ 96 = search rules in
-    let third = c.put_bytes-third.ensures in
-    omega (
-      arith,
-      end_word c.args.state.cycles c.put-first.ensures,
-      end_all node_bytes 8 node_long s.nodes nodes c.put_all-second.ensures,
-      third.next,
-      put_long third,
-      marks,
-      end_all station_bytes 9 station_long s.stations stations c.put_all-fourth.ensures,
-      flat_long queue_bytes 33 queue_long s.queues,
-      queues,
-    )
+    let third = end_marks s nodes marks c.put-first.ensures c.put_all-second.ensures c.put_bytes-third.ensures in
+    let fourth = end_all station_bytes 9 station_long s.stations stations c.put_all-fourth.ensures in
+    omega (arith, third, fourth, flat_long queue_bytes 33 queue_long s.queues, queues)
 
 pub returns : goal.returns
 returns c =
