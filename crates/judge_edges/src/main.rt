@@ -64,7 +64,8 @@ fn wire(i: u8) -> [u8; 3] {
 }
 
 // An image of n nodes and c channels: nodes 0 to 31 are sum nodes and the others hold nodes. Each
-// channel has 8 stations while they last, and a queue of depth 1.
+// channel has 8 stations while they last, and a queue of depth 1. Kinds are numbers here: these are an
+// image's bytes, and a case writes some that are no kind.
 fn sized(alloc: Global, n: u8, c: u8, stations: u16) -> Result<Vec<u8>, AllocError> {
     let mut image = vec![in alloc; n, c]?;
     for i in 0..n {
