@@ -84,7 +84,8 @@ fn sized(alloc: Global, n: u8, c: u8, stations: u16) -> Result<Vec<u8>, AllocErr
     Ok(image)
 }
 
-// The same image with other bytes at some places.
+// The same image with other bytes at some places. The program edges has a function for the three lines
+// that set a place: a crate for the two would be longer.
 fn with(image: &Vec<u8>, changes: &[(usize, u8)]) -> Result<Vec<u8>, AllocError> {
     let mut changed = image.clone()?;
     for &(at, byte) in changes {
