@@ -19,25 +19,13 @@ struct Cycle {
     stop: bool,
 }
 
-impl Cycle {
-    // From a valid bit and the value beside it, which is not looked at where the bit is not set.
-    fn new(valid: bool, value: i32, stop: bool) -> Cycle {
-        Cycle {
-            link: valid.then_some(value),
-            stop,
-        }
-    }
-}
-
-// Cycles from two texts: a digit is an incoming token, '.' is none, and '1' is a stop. Beside no token
-// stands -2, which has no effect.
+// Cycles from two texts: a digit is an incoming token, '.' is none, and '1' is a stop.
 fn cycles(alloc: Global, tokens: &[u8], stops: &[u8]) -> Result<Vec<Cycle>, AllocError> {
-    let mut cycles = Vec::new(alloc);
-    for (token, stop) in tokens.iter().zip(stops) {
-        let digit = token.checked_sub(b'0');
-        cycles.push(Cycle::new(digit.is_some(), digit.map_or(-2, i32::from), *stop == b'1'))?;
-    }
-    Ok(cycles)
+    let cycle = |(token, stop): (&u8, &u8)| Cycle {
+        link: token.checked_sub(b'0').map(i32::from),
+        stop: *stop == b'1',
+    };
+    tokens.iter().zip(stops).map(cycle).collect(alloc)
 }
 
 // What is benched: a station, or nine records of which the first are a row.
@@ -77,7 +65,7 @@ impl Bench for Row {
     }
 }
 
-// An answer, to be printed.
+// An answer, to be printed. Its letter is a byte, as the C interface has it.
 #[derive(Clone, Copy)]
 struct Shown(Result<Answer, Refusal>);
 
@@ -93,7 +81,7 @@ impl fmt::Display for Shown {
         };
         let letter = char::from(letter);
         write!(f, "{letter}")?;
-        if letter == 'T' || letter == 'R' || value != 0 {
+        if matches!(letter, 'T' | 'R') || value != 0 {
             write!(f, "{value}")?;
         }
         if taken {
@@ -172,36 +160,46 @@ fn show_cycles(rt: &impl Print, alloc: Global) -> io::Result<()> {
     show(rt, "a row of 8", empty_row(8), &for_8)
 }
 
+const OFFERED: Cycle = Cycle {
+    link: Some(6),
+    stop: false,
+};
+
+const EXTREME: Cycle = Cycle {
+    link: Some(i32::MAX),
+    stop: true,
+};
+
+const STOPPED: Cycle = Cycle {
+    link: None,
+    stop: true,
+};
+
+const NOTHING: Cycle = Cycle {
+    link: None,
+    stop: false,
+};
+
 fn show_stations(rt: &impl Print) -> io::Result<()> {
-    let offered = Cycle::new(true, 6, false);
-    let stopped = Cycle::new(false, 9, true);
-    let extreme = Cycle::new(true, i32::MAX, true);
+    // The first label tells of C's form, with a value beside its clear bit; a void link has none.
     let cases = [
         (
             "no token comes, with a value beside it",
             station(1, 4, 0),
-            stopped,
+            STOPPED,
         ),
-        ("two tokens of 0", station(2, 0, 0), stopped),
+        ("two tokens of 0", station(2, 0, 0), STOPPED),
         (
             "full, not stopped, a token offered",
             station(2, 4, 5),
-            offered,
+            OFFERED,
         ),
-        ("the ends of the range", station(1, i32::MIN, 0), extreme),
-        ("a count of 3", station(3, 4, 5), offered),
-        ("a count of 255", station(255, 4, 5), offered),
-        ("one token and an unused 5", station(1, 4, 5), offered),
-        (
-            "no token and an unused -1",
-            station(0, -1, 0),
-            Cycle::new(false, 0, false),
-        ),
-        (
-            "no token and an unused 5 behind",
-            station(0, 0, 5),
-            Cycle::new(false, 0, true),
-        ),
+        ("the ends of the range", station(1, i32::MIN, 0), EXTREME),
+        ("a count of 3", station(3, 4, 5), OFFERED),
+        ("a count of 255", station(255, 4, 5), OFFERED),
+        ("one token and an unused 5", station(1, 4, 5), OFFERED),
+        ("no token and an unused -1", station(0, -1, 0), NOTHING),
+        ("no token and an unused 5 behind", station(0, 0, 5), STOPPED),
     ];
     for (label, station, cycle) in cases {
         show(rt, label, station, &[cycle])?;
@@ -213,7 +211,10 @@ fn show_rows(rt: &impl Print) -> io::Result<()> {
     let empty = all(Station::empty());
     let misfits = all(station(3, 4, 5));
     let with_one = all(station(1, 4, 0));
-    let offered = [Cycle::new(true, 5, false)];
+    let offered = [Cycle {
+        link: Some(5),
+        stop: false,
+    }];
     let cases = [
         ("a row of 0", 0, empty),
         ("a row of 9", 9, empty),

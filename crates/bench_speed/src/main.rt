@@ -7,7 +7,7 @@ use bench::Records;
 use relay::Station;
 use std::io;
 
-// Call i, and whether a token left the row.
+// Call i, and whether a token left the row. The letter is a byte, as the C interface has it.
 fn passes(records: &mut Records, i: u32) -> bool {
     let out = bench::row_trial(*records, 8, (i & 3 != 0).then_some(5), i & 5 == 1);
     *records = out.after;

@@ -62,11 +62,3 @@ pub(crate) fn answered<T>(outcome: Result<T, Failure>) -> Result<Result<T, Cause
         Err(Failure::OutOfMemory(error)) => Err(error),
     }
 }
-
-// The number of an answer, 0 if it is no refusal.
-pub(crate) fn number_of<T>(answer: &Result<T, Cause>) -> u8 {
-    match answer {
-        Ok(_) => 0,
-        Err(refusal) => refusal.number(),
-    }
-}

@@ -8,20 +8,29 @@ use crate::plan::Wire;
 use std::alloc::{AllocError, Global};
 use std::collections::VecDeque;
 
+// How a trace tells of a link: a token that passes or stays, a stop, or nothing.
+#[derive(Clone, Copy, PartialEq, Eq)]
+pub(crate) enum Letter {
+    Passes = b'T' as isize,
+    Stays = b'R' as isize,
+    Stop = b'S' as isize,
+    Idle = b'I' as isize,
+}
+
 // What the arriving link shows: a letter, and the token's value or 0.
 #[derive(Clone, Copy)]
 pub(crate) struct Reading {
-    pub letter: u8,
+    pub letter: Letter,
     pub value: i32,
 }
 
 impl Reading {
     pub(crate) fn new(token: Option<i32>, stop: bool) -> Self {
         let letter = match (token, stop) {
-            (Some(_), true) => b'R',
-            (Some(_), false) => b'T',
-            (None, true) => b'S',
-            (None, false) => b'I',
+            (Some(_), true) => Letter::Stays,
+            (Some(_), false) => Letter::Passes,
+            (None, true) => Letter::Stop,
+            (None, false) => Letter::Idle,
         };
         Reading {
             letter,
@@ -96,23 +105,18 @@ impl Channel {
 
     // How many tokens are older than those of a place.
     fn older(&self, place: usize) -> usize {
-        let mut older: usize = 0;
-        for count in self.counts.iter().skip(place.saturating_add(1)) {
-            older = older.saturating_add(usize::from(*count));
-        }
-        older
+        let counts = self.counts.iter().skip(place.saturating_add(1));
+        counts
+            .map(|count| usize::from(*count))
+            .fold(0, usize::saturating_add)
     }
 
     // Sets the first tokens to those of a place.
     fn copy_tokens(&self, place: usize, tokens: &mut [i32]) {
-        let older = self.older(place);
+        let held = self.tokens.iter().skip(self.older(place));
         let count = usize::from(self.count(place));
-        for (i, token) in tokens.iter_mut().enumerate().take(count) {
-            *token = self
-                .tokens
-                .get(older.saturating_add(i))
-                .copied()
-                .unwrap_or(0);
+        for (token, value) in tokens.iter_mut().zip(held.take(count)) {
+            *token = *value;
         }
     }
 
@@ -199,7 +203,8 @@ impl Channel {
     }
 
     // From the last link, which is stopped or is not, to link 0. A place is looked at before its tokens
-    // are handed on: whether it is full then is the stop of the link before it.
+    // are handed on: whether it is full then is the stop of the link before it. No iterator over the
+    // counts: a turn changes two of them.
     pub(crate) fn pass_links(&mut self, stopped: bool) {
         let mut stop = stopped;
         for place in (0..=self.stations()).rev() {

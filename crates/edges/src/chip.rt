@@ -59,8 +59,7 @@ impl Node {
                     *token = channel.take();
                 }
             }
-            let [a, b, c] = taken;
-            self.value = self.kind.next(self.value, a, b, c);
+            self.value = self.kind.next(self.value, taken);
             self.firings = self.firings.saturating_add(1);
         }
     }
@@ -137,7 +136,7 @@ impl Chip {
 
     // Its state; what the netlist does not have is 0.
     pub(crate) fn state(&self) -> State {
-        let mut state = library::zeros();
+        let mut state = State::zeros();
         state.cycles = self.cycles;
         for (shown, node) in state.nodes.iter_mut().zip(self.nodes.iter()) {
             *shown = node.shown();

@@ -56,68 +56,96 @@ fn roll_place(dice: &mut Dice, used: usize, places: usize) -> usize {
     dice.roll(used)
 }
 
-fn roll_node(dice: &mut Dice, plan: &Plan) -> usize {
-    roll_place(dice, plan.cores.len(), 64)
-}
+impl Plan {
+    fn roll_node(&self, dice: &mut Dice) -> usize {
+        roll_place(dice, self.cores.len(), 64)
+    }
 
-fn roll_channel(dice: &mut Dice, plan: &Plan) -> usize {
-    roll_place(dice, plan.wires.len(), 96)
-}
+    fn roll_channel(&self, dice: &mut Dice) -> usize {
+        roll_place(dice, self.wires.len(), 96)
+    }
 
-fn roll_station(dice: &mut Dice, plan: &Plan) -> usize {
-    let c = roll_channel(dice, plan);
-    c.saturating_mul(8).saturating_add(dice.roll(8))
+    fn roll_station(&self, dice: &mut Dice) -> usize {
+        let c = self.roll_channel(dice);
+        c.saturating_mul(8).saturating_add(dice.roll(8))
+    }
 }
 
 // ---- states
 
-// Another token, or another value that a node shows.
-fn change_token(state: &mut State, dice: &mut Dice, plan: &Plan, face: usize) {
-    let value = roll_value(dice);
-    let i = dice.roll(2);
-    match face {
-        0 => change(&mut state.nodes, roll_node(dice, plan), |node| {
-            node.value = value;
-        }),
-        1 => change(&mut state.stations, roll_station(dice, plan), |station| {
-            set(&mut station.tokens, i, value);
-        }),
-        _ => change(&mut state.queues, roll_channel(dice, plan), |queue| {
-            set(&mut queue.tokens, i, value);
-        }),
-    }
+// Where a token is changed; a node shows one.
+#[derive(Clone, Copy)]
+enum Token {
+    Shown,
+    InStation,
+    InQueue,
 }
 
-// Another count.
-fn change_count(state: &mut State, dice: &mut Dice, plan: &Plan, face: usize) {
-    let count = roll_count(dice);
-    match face {
-        3 => set(&mut state.pending, roll_channel(dice, plan), count),
-        4 => change(&mut state.stations, roll_station(dice, plan), |station| {
-            station.count = count;
-        }),
-        5 => change(&mut state.queues, roll_channel(dice, plan), |queue| {
-            queue.count = count;
-        }),
-        6 => {
-            let n = roll_node(dice, plan);
-            let firings = roll_firings(dice);
-            change(&mut state.nodes, n, |node| node.firings = firings);
+// What a changed number counts; a mark counts as one.
+#[derive(Clone, Copy)]
+enum Count {
+    Mark,
+    InStation,
+    InQueue,
+    Firings,
+    Cycles,
+}
+
+impl Plan {
+    fn change_token(&self, state: &mut State, dice: &mut Dice, token: Token) {
+        let value = roll_value(dice);
+        let i = dice.roll(2);
+        match token {
+            Token::Shown => change(&mut state.nodes, self.roll_node(dice), |node| {
+                node.value = value;
+            }),
+            Token::InStation => {
+                change(&mut state.stations, self.roll_station(dice), |station| {
+                    set(&mut station.tokens, i, value);
+                });
+            }
+            Token::InQueue => change(&mut state.queues, self.roll_channel(dice), |queue| {
+                set(&mut queue.tokens, i, value);
+            }),
         }
-        _ => state.cycles = roll_cycles(dice),
     }
-}
 
-// The state with one field changed.
-pub(crate) fn changed(state: &State, dice: &mut Dice, plan: &Plan) -> State {
-    let mut changed = *state;
-    let face = dice.roll(8);
-    if face < 3 {
-        change_token(&mut changed, dice, plan, face);
-    } else {
-        change_count(&mut changed, dice, plan, face);
+    fn change_count(&self, state: &mut State, dice: &mut Dice, changed: Count) {
+        let count = roll_count(dice);
+        match changed {
+            Count::Mark => set(&mut state.pending, self.roll_channel(dice), count),
+            Count::InStation => {
+                change(&mut state.stations, self.roll_station(dice), |station| {
+                    station.count = count;
+                });
+            }
+            Count::InQueue => change(&mut state.queues, self.roll_channel(dice), |queue| {
+                queue.count = count;
+            }),
+            Count::Firings => {
+                let n = self.roll_node(dice);
+                let firings = roll_firings(dice);
+                change(&mut state.nodes, n, |node| node.firings = firings);
+            }
+            Count::Cycles => state.cycles = roll_cycles(dice),
+        }
     }
-    changed
+
+    // The state with one field changed.
+    pub(crate) fn changed(&self, state: &State, dice: &mut Dice) -> State {
+        let mut changed = *state;
+        match dice.roll(8) {
+            0 => self.change_token(&mut changed, dice, Token::Shown),
+            1 => self.change_token(&mut changed, dice, Token::InStation),
+            2 => self.change_token(&mut changed, dice, Token::InQueue),
+            3 => self.change_count(&mut changed, dice, Count::Mark),
+            4 => self.change_count(&mut changed, dice, Count::InStation),
+            5 => self.change_count(&mut changed, dice, Count::InQueue),
+            6 => self.change_count(&mut changed, dice, Count::Firings),
+            _ => self.change_count(&mut changed, dice, Count::Cycles),
+        }
+        changed
+    }
 }
 
 // ---- images
@@ -137,31 +165,33 @@ fn spoil_byte(image: &mut [u8], dice: &mut Dice) {
     set(image, at, dice.roll_byte(sides));
 }
 
-// The image with every channel's stations eight.
-fn full(alloc: Global, plan: &Plan) -> Result<Vec<u8>, AllocError> {
-    let cores = plan.cores.clone()?;
-    let mut wires = plan.wires.clone()?;
-    for wire in wires.iter_mut() {
-        wire.stations = 8;
+impl Plan {
+    // The image with every channel's stations eight.
+    fn full(&self, alloc: Global) -> Result<Vec<u8>, AllocError> {
+        let cores = self.cores.clone()?;
+        let mut wires = self.wires.clone()?;
+        for wire in wires.iter_mut() {
+            wire.stations = 8;
+        }
+        Plan { cores, wires }.write(alloc)
     }
-    Plan { cores, wires }.write(alloc)
-}
 
-// The image of a plan with something changed.
-pub(crate) fn spoiled(
-    alloc: Global,
-    image: &[u8],
-    dice: &mut Dice,
-    plan: &Plan,
-) -> Result<Vec<u8>, AllocError> {
-    let mut spoiled = image.to_vec(alloc)?;
-    match dice.roll(10) {
-        0 => spoiled.truncate(dice.roll(image.len())),
-        1 => spoiled.truncate(dice.roll(3)),
-        2 => spoiled.push(0)?,
-        3 => return full(alloc, plan),
-        4..=6 => spoil_channel(&mut spoiled, dice, plan.wires.len()),
-        _ => spoil_byte(&mut spoiled, dice),
+    // Its image with something changed. No closures: one throw picks what is done.
+    pub(crate) fn spoiled(
+        &self,
+        alloc: Global,
+        image: &[u8],
+        dice: &mut Dice,
+    ) -> Result<Vec<u8>, AllocError> {
+        let mut spoiled = image.to_vec(alloc)?;
+        match dice.roll(10) {
+            0 => spoiled.truncate(dice.roll(image.len())),
+            1 => spoiled.truncate(dice.roll(3)),
+            2 => spoiled.push(0)?,
+            3 => return self.full(alloc),
+            4..=6 => spoil_channel(&mut spoiled, dice, self.wires.len()),
+            _ => spoil_byte(&mut spoiled, dice),
+        }
+        Ok(spoiled)
     }
-    Ok(spoiled)
 }

@@ -1,5 +1,6 @@
 // The dice that every test here is thrown with: one seed always gives the same throws.
 
+// No allocator stands in it, though some that throw take one beside it: most of them make nothing.
 #[derive(Clone, Copy)]
 pub(crate) struct Dice {
     thrown: u64,

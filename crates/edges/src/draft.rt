@@ -72,63 +72,66 @@ fn pick(dice: &mut Dice, kinds: &[Kind]) -> Kind {
     kinds.get(face).copied().unwrap_or(Kind::Count)
 }
 
-// The first node of reconvergent paths and of a fan-out counts, and no node of a ring.
-fn roll_kind(dice: &mut Dice, shape: Shape, n: usize) -> Kind {
-    match shape {
-        Shape::Rings => {
-            if dice.one_in(4) {
-                pick(dice, &KINDS[5..])
-            } else {
-                pick(dice, &KINDS[1..5])
-            }
-        }
-        Shape::Reconvergent | Shape::FanOut if n == 0 => Kind::Count,
-        Shape::Reconvergent | Shape::FanOut | Shape::SelfLoops => pick(dice, &KINDS[1..]),
-        Shape::Mixed | Shape::Large => pick(dice, &KINDS),
-    }
-}
-
 // ---- nodes
 
-// Large is more than half as many as there may be, and often all.
-fn roll_nodes(dice: &mut Dice, shape: Shape) -> usize {
-    match shape {
-        Shape::Rings => dice.roll_between(1, 8),
-        Shape::Reconvergent => dice.roll_between(3, 8),
-        Shape::SelfLoops => dice.roll_between(1, 6),
-        Shape::FanOut => dice.roll_between(2, 11),
-        Shape::Mixed => dice.roll_between(1, 12),
-        Shape::Large => {
-            if dice.one_in(3) {
-                64
-            } else {
-                dice.roll_between(33, 63)
+impl Shape {
+    // The first node of reconvergent paths and of a fan-out counts, and no node of a ring.
+    fn roll_kind(self, dice: &mut Dice, n: usize) -> Kind {
+        match self {
+            Shape::Rings => {
+                if dice.one_in(4) {
+                    pick(dice, &KINDS[5..])
+                } else {
+                    pick(dice, &KINDS[1..5])
+                }
+            }
+            Shape::Reconvergent | Shape::FanOut if n == 0 => Kind::Count,
+            Shape::Reconvergent | Shape::FanOut | Shape::SelfLoops => pick(dice, &KINDS[1..]),
+            Shape::Mixed | Shape::Large => pick(dice, &KINDS),
+        }
+    }
+
+    // Large is more than half as many as there may be, and often all.
+    fn roll_nodes(self, dice: &mut Dice) -> usize {
+        match self {
+            Shape::Rings => dice.roll_between(1, 8),
+            Shape::Reconvergent => dice.roll_between(3, 8),
+            Shape::SelfLoops => dice.roll_between(1, 6),
+            Shape::FanOut => dice.roll_between(2, 11),
+            Shape::Mixed => dice.roll_between(1, 12),
+            Shape::Large => {
+                if dice.one_in(3) {
+                    64
+                } else {
+                    dice.roll_between(33, 63)
+                }
             }
         }
     }
-}
 
-// A node only counts if the channels would be over 96.
-fn roll_cores(
-    alloc: Global,
-    dice: &mut Dice,
-    shape: Shape,
-    nodes: usize,
-) -> Result<Vec<Core>, AllocError> {
-    let mut cores = Vec::new(alloc);
-    let mut channels: usize = 0;
-    for n in 0..nodes {
-        let mut kind = roll_kind(dice, shape, n);
-        if MOST_CHANNELS < channels.saturating_add(kind.inputs()) {
-            kind = Kind::Count;
+    // A node only counts if the channels would be over 96. No `collect`: a turn carries how many there
+    // are so far.
+    fn roll_cores(
+        self,
+        alloc: Global,
+        dice: &mut Dice,
+        nodes: usize,
+    ) -> Result<Vec<Core>, AllocError> {
+        let mut cores = Vec::new(alloc);
+        let mut channels: usize = 0;
+        for n in 0..nodes {
+            let mut kind = self.roll_kind(dice, n);
+            if MOST_CHANNELS < channels.saturating_add(kind.inputs()) {
+                kind = Kind::Count;
+            }
+            channels = channels.saturating_add(kind.inputs());
+            cores.push(Core {
+                kind: kind as u8,
+                parameter: roll_parameter(dice),
+            })?;
         }
-        channels = channels.saturating_add(kind.inputs());
-        cores.push(Core {
-            kind: kind as u8,
-            parameter: roll_parameter(dice),
-        })?;
+        Ok(cores)
     }
-    Ok(cores)
 }
 
 // ---- channels
@@ -139,21 +142,6 @@ fn before_in_ring(n: usize, nodes: usize) -> usize {
     } else {
         n - 1
     }
-}
-
-// The node that feeds a port of node n. The dice of a fan-out are thrown for any shape.
-fn roll_source(dice: &mut Dice, shape: Shape, nodes: usize, n: usize, port: usize) -> usize {
-    match shape {
-        Shape::Rings if port == 0 => return before_in_ring(n, nodes),
-        Shape::SelfLoops if port == 0 => return n,
-        Shape::Reconvergent => return dice.roll(n),
-        _ => {}
-    }
-    let other = dice.one_in(4);
-    if shape == Shape::FanOut && !other {
-        return 0;
-    }
-    dice.roll(nodes)
 }
 
 // With so many on the channels before.
@@ -173,37 +161,54 @@ fn roll_depth(dice: &mut Dice) -> u8 {
     byte(dice.roll_between(1, most))
 }
 
-fn roll_wires(
-    alloc: Global,
-    dice: &mut Dice,
-    shape: Shape,
-    cores: &[Core],
-) -> Result<Vec<Wire>, AllocError> {
-    let mut wires = Vec::new(alloc);
-    let mut total: u32 = 0;
-    for (n, core) in cores.iter().enumerate() {
-        for port in 0..core.inputs() {
-            let from = roll_source(dice, shape, cores.len(), n, port);
-            let stations = roll_stations(dice, total);
-            total = total.saturating_add(u32::from(stations));
-            wires.push(Wire {
-                from: byte(from),
-                to: byte(n),
-                port: byte(port),
-                stations,
-                depth: roll_depth(dice),
-            })?;
+impl Shape {
+    // The node that feeds a port of node n. The dice of a fan-out are thrown for any shape.
+    fn roll_source(self, dice: &mut Dice, nodes: usize, n: usize, port: usize) -> usize {
+        match self {
+            Shape::Rings if port == 0 => return before_in_ring(n, nodes),
+            Shape::SelfLoops if port == 0 => return n,
+            Shape::Reconvergent => return dice.roll(n),
+            _ => {}
         }
+        let other = dice.one_in(4);
+        if self == Shape::FanOut && !other {
+            return 0;
+        }
+        dice.roll(nodes)
     }
-    Ok(wires)
+
+    fn roll_wires(
+        self,
+        alloc: Global,
+        dice: &mut Dice,
+        cores: &[Core],
+    ) -> Result<Vec<Wire>, AllocError> {
+        let mut wires = Vec::new(alloc);
+        let mut total: u32 = 0;
+        for (n, core) in cores.iter().enumerate() {
+            for port in 0..core.inputs() {
+                let from = self.roll_source(dice, cores.len(), n, port);
+                let stations = roll_stations(dice, total);
+                total = total.saturating_add(u32::from(stations));
+                wires.push(Wire {
+                    from: byte(from),
+                    to: byte(n),
+                    port: byte(port),
+                    stations,
+                    depth: roll_depth(dice),
+                })?;
+            }
+        }
+        Ok(wires)
+    }
 }
 
 // A netlist of a shape. The order of its channels is turned.
 pub(crate) fn roll_plan(alloc: Global, dice: &mut Dice, shape: Shape) -> Result<Plan, AllocError> {
-    let nodes = roll_nodes(dice, shape);
+    let nodes = shape.roll_nodes(dice);
     let shift = dice.roll(MOST_CHANNELS);
-    let cores = roll_cores(alloc, dice, shape, nodes)?;
-    let mut wires = roll_wires(alloc, dice, shape, &cores)?;
+    let cores = shape.roll_cores(alloc, dice, nodes)?;
+    let mut wires = shape.roll_wires(alloc, dice, &cores)?;
     if !wires.is_empty() {
         let turn = shift % wires.len();
         wires.rotate_right(turn);

@@ -8,22 +8,18 @@ use crate::plan::{Plan, Wire};
 // How many tokens a place holds that may hold so many; nothing, if it holds more or a place that holds
 // no token is not 0.
 fn place_held(tokens: &[i32], count: u8, limit: u8) -> Option<u64> {
-    for (i, token) in tokens.iter().enumerate() {
-        if usize::from(count) <= i && *token != 0 {
-            return None;
-        }
-    }
-    (count <= limit).then_some(u64::from(count))
+    let mut unused = tokens.iter().skip(usize::from(count));
+    let fits = count <= limit && unused.all(|token| *token == 0);
+    fits.then_some(u64::from(count))
 }
 
 // A station of a row may hold two tokens, a place for one that is not there none.
 pub(crate) fn row_held(row: &[Station], stations: usize) -> Option<u64> {
-    let mut held: u64 = 0;
-    for (j, station) in row.iter().enumerate() {
+    row.iter().enumerate().try_fold(0u64, |held, (j, station)| {
         let limit = if j < stations { 2 } else { 0 };
-        held = held.saturating_add(place_held(&station.tokens, station.count, limit)?);
-    }
-    Some(held)
+        let more = place_held(&station.tokens, station.count, limit)?;
+        Some(held.saturating_add(more))
+    })
 }
 
 fn queue_held(queue: &Queue, depth: u8) -> Option<u64> {
@@ -49,10 +45,8 @@ fn firings(state: &State, n: u8) -> u64 {
 fn channel_fits(state: &State, held: &Held, wire: Wire) -> bool {
     let sent = firings(state, wire.from);
     let used = firings(state, wire.to);
-    match channel_held(held, wire.stations, wire.depth) {
-        Some(tokens) => tokens.saturating_add(used) == sent.saturating_add(1),
-        None => false,
-    }
+    let held = channel_held(held, wire.stations, wire.depth);
+    held.is_some_and(|tokens| tokens.saturating_add(used) == sent.saturating_add(1))
 }
 
 fn channels_fit(plan: &Plan, state: &State) -> bool {

@@ -1,7 +1,7 @@
 // The strict system of the second simulator: the values of all nodes in each cycle from 0 on, if every
 // node fired in each.
 
-use crate::chip::Chip;
+use crate::chip::{Chip, Node};
 use std::alloc::{AllocError, Global};
 
 #[derive(Drop)]
@@ -15,24 +15,20 @@ fn at(row: &[i32], n: usize) -> i32 {
 
 // The values of the cycle after one of these.
 fn next_row(alloc: Global, chip: &Chip, row: &[i32]) -> Result<Vec<i32>, AllocError> {
-    let mut next = Vec::new(alloc);
-    for (n, node) in chip.nodes.iter().enumerate() {
+    let next = |(n, node): (usize, &Node)| {
         let a = at(row, chip.source(node, 0));
         let b = at(row, chip.source(node, 1));
         let c = at(row, chip.source(node, 2));
-        next.push(node.kind.next(at(row, n), a, b, c))?;
-    }
-    Ok(next)
+        node.kind.next(at(row, n), [a, b, c])
+    };
+    chip.nodes.iter().enumerate().map(next).collect(alloc)
 }
 
 impl History {
     // Up to a cycle, from a chip in its fresh state.
     pub(crate) fn new(alloc: Global, chip: &Chip, cycle: u32) -> Result<Self, AllocError> {
         let mut rows = Vec::new(alloc);
-        let mut row = Vec::new(alloc);
-        for node in chip.nodes.iter() {
-            row.push(node.value)?;
-        }
+        let mut row: Vec<i32> = chip.nodes.iter().map(|node| node.value).collect(alloc)?;
         for _ in 0..cycle {
             let next = next_row(alloc, chip, &row)?;
             rows.push(row)?;

@@ -16,6 +16,7 @@ struct Causes {
 }
 
 impl Causes {
+    // The test comes as a `bool`, so that a call reads as a sentence.
     fn note(&mut self, cause: bool, refusal: Cause) {
         if cause && self.least.is_none_or(|least| refusal < least) {
             self.least = Some(refusal);
@@ -66,12 +67,12 @@ impl Plan {
     }
 
     fn judge_wires(&self, causes: &mut Causes) {
-        let mut stations: u32 = 0;
         for wire in self.wires.iter() {
             self.judge_wire(causes, *wire);
-            stations = stations.saturating_add(u32::from(wire.stations));
         }
-        causes.note(MOST_STATIONS < stations, Cause::StationsInAll);
+        let stations = self.wires.iter().map(|wire| u32::from(wire.stations));
+        let total = stations.fold(0, u32::saturating_add);
+        causes.note(MOST_STATIONS < total, Cause::StationsInAll);
     }
 
     fn judge_cores(&self, causes: &mut Causes) {
@@ -89,10 +90,7 @@ impl Plan {
         let mut causes = Causes { least: None };
         self.judge_wires(&mut causes);
         self.judge_cores(&mut causes);
-        match causes.least {
-            None => Ok(()),
-            Some(refusal) => Err(refusal),
-        }
+        causes.least.map_or(Ok(()), Err)
     }
 
     // The netlist of an image that is accepted.

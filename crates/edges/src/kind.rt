@@ -46,7 +46,8 @@ impl Kind {
     }
 
     // The next value, from the node's value and the tokens on its ports.
-    pub(crate) fn next(self, value: i32, a: i32, b: i32, c: i32) -> i32 {
+    pub(crate) fn next(self, value: i32, tokens: [i32; 3]) -> i32 {
+        let [a, b, c] = tokens;
         match self {
             Kind::Count => value.wrapping_add(1),
             Kind::Hold => a,

@@ -2,7 +2,8 @@
 // brought into the forms of this program here.
 
 use crate::places::set;
-use refusal::Refusal;
+pub(crate) use engine::Ran;
+pub(crate) use refusal::Refusal;
 pub(crate) use relay::Station;
 pub(crate) use shell::Queue;
 use state::Refused;
@@ -13,11 +14,6 @@ use std::alloc::{AllocError, Global};
 pub(crate) const UNTOUCHED: u8 = b'.';
 
 // ---- a state by channels
-
-// A state that is 0 throughout.
-pub(crate) fn zeros() -> State {
-    State::zeros()
-}
 
 // What a state holds on one channel.
 #[derive(Clone, Copy)]
@@ -43,36 +39,38 @@ pub(crate) fn put_held(state: &mut State, c: usize, held: Held) {
     set(&mut state.queues, c, held.queue);
 }
 
-// ---- calls on an image
+// ---- calls on an image. Image, state and word stand side by side, or image, cycle and room, as in the
+// calls that are made: a struct of them would only be taken apart again.
 
-// A call's number, 0 if it is not refused, and the state after it. No `Result`: number and state are compared whatever
-// the number is.
+// Why a call was refused, if it was, and the state after it. No `Result`: the state is compared in
+// either case.
 #[derive(Clone, Copy)]
 pub(crate) struct Answer {
-    pub number: u8,
     pub state: State,
+    pub refusal: Option<Refusal>,
 }
 
-fn number(answer: Result<(), Refusal>) -> u8 {
-    answer.map_or_else(Refusal::number, |()| 0)
-}
-
-fn told(answer: Result<State, Refused>) -> Answer {
-    match answer {
-        Ok(state) => Answer { number: 0, state },
-        Err(refused) => Answer {
-            number: refused.refusal.number(),
-            state: refused.state,
-        },
+impl From<Result<State, Refused>> for Answer {
+    fn from(answer: Result<State, Refused>) -> Self {
+        match answer {
+            Ok(state) => Answer {
+                state,
+                refusal: None,
+            },
+            Err(Refused { refusal, state }) => Answer {
+                state,
+                refusal: Some(refusal),
+            },
+        }
     }
 }
 
-pub(crate) fn judge(image: &[u8]) -> u8 {
-    number(netlist::judge(image))
+pub(crate) fn judge(image: &[u8]) -> Option<Refusal> {
+    netlist::judge(image).err()
 }
 
 pub(crate) fn fresh(image: &[u8]) -> Answer {
-    told(State::fresh(image))
+    Answer::from(State::fresh(image))
 }
 
 // How many places of the two arrays are lent to a step.
@@ -88,7 +86,8 @@ impl Rooms {
     }
 }
 
-// A step's answer, and the arrays that were lent to it.
+// A step's answer, and the arrays that were lent to it: two, and letters as bytes, since the C interface
+// lends them so.
 #[derive(Drop)]
 pub(crate) struct Stepped {
     pub answer: Answer,
@@ -105,35 +104,22 @@ pub(crate) fn step(
 ) -> Result<Stepped, AllocError> {
     let mut letters = vec![in alloc; UNTOUCHED; rooms.letters]?;
     let mut values = vec![in alloc; i32::from(UNTOUCHED); rooms.values]?;
-    let answer = told(engine::step(image, *state, word, &mut letters, &mut values));
+    let answer = engine::step(image, *state, word, &mut letters, &mut values);
     Ok(Stepped {
-        answer,
+        answer: Answer::from(answer),
         letters,
         values,
     })
 }
 
-#[derive(Clone, Copy)]
-pub(crate) struct Ran {
-    pub answer: Answer,
-    pub steps: u32,
-}
-
 pub(crate) fn run(image: &[u8], state: &State, words: &[u64]) -> Ran {
-    let ran = engine::run(image, *state, words);
-    Ran {
-        answer: Answer {
-            number: ran.stopped.map_or(0, Refusal::number),
-            state: ran.state,
-        },
-        steps: ran.steps,
-    }
+    engine::run(image, *state, words)
 }
 
-// A strict run's number, and the array that was lent to it.
+// Why a strict run was refused, if it was, and the array that was lent to it.
 #[derive(Drop)]
 pub(crate) struct StrictDone {
-    pub number: u8,
+    pub refusal: Option<Refusal>,
     pub values: Vec<i32>,
 }
 
@@ -146,69 +132,30 @@ pub(crate) fn strict(
     let mut values = vec![in alloc; i32::from(UNTOUCHED); room]?;
     let answer = strict::strict(image, cycle, &mut values);
     Ok(StrictDone {
-        number: number(answer),
+        refusal: answer.err(),
         values,
     })
 }
 
 // ---- benches
 
-// What comes to a row in a cycle, and whether the link that leaves it is stopped. No `Option`: a void link has a value
-// beside it that nobody may look at.
+// What comes to a row in a cycle, and whether the link that leaves it is stopped. The program bench_edges
+// has the same: in one place it would be a type of `bench` that no function there takes.
 #[derive(Clone, Copy)]
 pub(crate) struct Coming {
-    pub valid: bool,
-    pub value: i32,
+    pub link: Option<i32>,
     pub stop: bool,
 }
 
-// What a bench answers. No `Result`: all four fields are compared whatever the number is.
-#[derive(Clone, Copy)]
-pub(crate) struct Benched {
-    pub number: u8,
-    pub letter: u8,
-    pub value: i32,
-    pub taken: bool,
-}
-
-// A bench that is refused tells 0, 0 and no beside its number.
-impl From<Result<bench::Answer, Refusal>> for Benched {
-    fn from(answer: Result<bench::Answer, Refusal>) -> Self {
-        match answer {
-            Ok(answer) => Benched {
-                number: 0,
-                letter: answer.letter,
-                value: answer.value,
-                taken: answer.taken,
-            },
-            Err(refusal) => Benched {
-                number: refusal.number(),
-                letter: 0,
-                value: 0,
-                taken: false,
-            },
-        }
-    }
-}
+// What a bench answers.
+pub(crate) type Benched = Result<bench::Answer, Refusal>;
 
 // The bench of one station, which is changed.
 pub(crate) fn bench_station(station: &mut Station, coming: Coming) -> Benched {
-    let link = coming.valid.then_some(coming.value);
-    let trial = bench::station_trial(*station, link, coming.stop);
-    *station = trial.after;
-    Benched::from(trial.answer)
+    bench::station_bench(station, coming.link, coming.stop)
 }
 
-// A row of up to nine stations, one more than a bench takes.
-pub(crate) type Records = [Station; 9];
-
-// The bench of the first so many of them, which are changed.
-pub(crate) fn bench_row(records: &mut Records, length: usize, coming: Coming) -> Benched {
-    let stations = *records;
-    let link = coming.valid.then_some(coming.value);
-    let trial = bench::row_trial(bench::Records { stations }, length, link, coming.stop);
-    let after = trial.after;
-    let stations = after.stations;
-    *records = stations;
-    Benched::from(trial.answer)
+// The bench of a row, which is changed.
+pub(crate) fn bench_row(row: &mut [Station], coming: Coming) -> Benched {
+    bench::row_bench(row, coming.link, coming.stop)
 }

@@ -56,27 +56,39 @@ pub(crate) struct Mismatch {
     pub second: u64,
 }
 
+// A number that is compared, as it is shown: a value as its 32 bits.
+pub(crate) trait Shown: Copy {
+    fn shown(self) -> u64;
+}
+
+impl Shown for u8 {
+    fn shown(self) -> u64 {
+        u64::from(self)
+    }
+}
+
+impl Shown for u32 {
+    fn shown(self) -> u64 {
+        u64::from(self)
+    }
+}
+
+impl Shown for i32 {
+    fn shown(self) -> u64 {
+        u64::from(self.cast_unsigned())
+    }
+}
+
 impl Mismatch {
-    pub(crate) fn of(field: Field, place: usize, engine: u64, second: u64) -> Option<Self> {
-        if engine == second {
-            return None;
-        }
-        Some(Mismatch {
+    pub(crate) fn of<T: Shown>(field: Field, place: usize, engine: T, second: T) -> Option<Self> {
+        let engine = engine.shown();
+        let second = second.shown();
+        (engine != second).then_some(Mismatch {
             field,
             place,
             engine,
             second,
         })
-    }
-
-    pub(crate) fn of_values(field: Field, place: usize, engine: i32, second: i32) -> Option<Self> {
-        let engine = u64::from(engine.cast_unsigned());
-        let second = u64::from(second.cast_unsigned());
-        Mismatch::of(field, place, engine, second)
-    }
-
-    fn of_counts(field: Field, place: usize, engine: u8, second: u8) -> Option<Self> {
-        Mismatch::of(field, place, u64::from(engine), u64::from(second))
     }
 }
 
@@ -88,34 +100,26 @@ fn first<T, F: Fn(usize, &T, &T) -> Option<Mismatch>>(
 ) -> Option<Mismatch>
     requires { F.IsAlwaysCallable compare }
 {
-    for (place, a) in engine.iter().enumerate() {
-        if let Some(b) = second.get(place) {
-            let found = compare(place, a, b);
-            if found.is_some() {
-                return found;
-            }
-        }
-    }
-    None
+    let mut pairs = engine.iter().zip(second).enumerate();
+    pairs.find_map(|(place, (a, b))| compare(place, a, b))
 }
 
-fn nodes(engine: &State, second: &State) -> Option<Mismatch> {
-    let values = |n: usize, a: &Node, b: &Node| {
-        Mismatch::of_values(Field::ValueOfNode, n, a.value, b.value)
-    };
-    let firings = |n: usize, a: &Node, b: &Node| {
-        Mismatch::of(
-            Field::FiringsOfNode,
-            n,
-            u64::from(a.firings),
-            u64::from(b.firings),
-        )
-    };
-    first(&engine.nodes, &second.nodes, values).or_else(|| first(
-        &engine.nodes,
-        &second.nodes,
-        firings,
-    ))
+// ---- states. No `==`: the first difference is told with its field and its place.
+
+fn nodes(engine: &[Node], second: &[Node]) -> Option<Mismatch> {
+    let value = |n: usize, a: &Node, b: &Node| Mismatch::of(
+        Field::ValueOfNode,
+        n,
+        a.value,
+        b.value,
+    );
+    let firings = |n: usize, a: &Node, b: &Node| Mismatch::of(
+        Field::FiringsOfNode,
+        n,
+        a.firings,
+        b.firings,
+    );
+    first(engine, second, value).or_else(|| first(engine, second, firings))
 }
 
 // What a queue or a station holds: its count stands before its tokens.
@@ -125,57 +129,71 @@ struct Place<'a> {
     tokens: &'a [i32],
 }
 
+impl<'a> Place<'a> {
+    fn of_queue(queue: &'a Queue) -> Self {
+        Place {
+            count: queue.count,
+            tokens: &queue.tokens,
+        }
+    }
+
+    fn of_station(station: &'a Station) -> Self {
+        Place {
+            count: station.count,
+            tokens: &station.tokens,
+        }
+    }
+}
+
 fn places(field: Field, at: usize, engine: Place, second: Place) -> Option<Mismatch> {
     let token = |i: usize, a: &i32, b: &i32| {
-        Mismatch::of_values(field, at.saturating_add(i).saturating_add(1), *a, *b)
+        Mismatch::of(field, at.saturating_add(i).saturating_add(1), *a, *b)
     };
-    Mismatch::of_counts(field, at, engine.count, second.count).or_else(|| first(
+    Mismatch::of(field, at, engine.count, second.count).or_else(|| first(
         engine.tokens,
         second.tokens,
         token,
     ))
 }
 
-fn queue(queue: &Queue) -> Place<'_> {
-    Place {
-        count: queue.count,
-        tokens: &queue.tokens,
-    }
+fn marks(engine: &[u8], second: &[u8]) -> Option<Mismatch> {
+    first(
+        engine,
+        second,
+        |c, a, b| Mismatch::of(Field::MarkOfChannel, c, *a, *b),
+    )
 }
 
-fn station(station: &Station) -> Place<'_> {
-    Place {
-        count: station.count,
-        tokens: &station.tokens,
-    }
-}
-
-fn channels(engine: &State, second: &State) -> Option<Mismatch> {
-    let marks = |c: usize, a: &u8, b: &u8| Mismatch::of_counts(Field::MarkOfChannel, c, *a, *b);
-    let queues = |c: usize, a: &Queue, b: &Queue| {
-        places(Field::QueuePlace, c.saturating_mul(9), queue(a), queue(b))
-    };
-    first(&engine.pending, &second.pending, marks)
-        .or_else(|| first(&engine.queues, &second.queues, queues))
-        .or_else(|| rows(&engine.stations, &second.stations))
+fn queues(engine: &[Queue], second: &[Queue]) -> Option<Mismatch> {
+    first(engine, second, |c, a, b| {
+        let at = c.saturating_mul(9);
+        places(
+            Field::QueuePlace,
+            at,
+            Place::of_queue(a),
+            Place::of_queue(b),
+        )
+    })
 }
 
 // The first mismatch of stations.
 pub(crate) fn rows(engine: &[Station], second: &[Station]) -> Option<Mismatch> {
     first(engine, second, |k, a, b| {
+        let at = k.saturating_mul(3);
         places(
             Field::StationPlace,
-            k.saturating_mul(3),
-            station(a),
-            station(b),
+            at,
+            Place::of_station(a),
+            Place::of_station(b),
         )
     })
 }
 
 // The first mismatch of two states: the cycle count, the nodes, the channels.
 pub(crate) fn between(engine: &State, second: &State) -> Option<Mismatch> {
-    let cycles = u64::from(engine.cycles);
-    Mismatch::of(Field::CycleCount, 0, cycles, u64::from(second.cycles))
-        .or_else(|| nodes(engine, second))
-        .or_else(|| channels(engine, second))
+    Mismatch::of(Field::CycleCount, 0, engine.cycles, second.cycles)
+        .or_else(|| nodes(&engine.nodes, &second.nodes))
+        .or_else(|| marks(&engine.pending, &second.pending))
+        .or_else(|| queues(&engine.queues, &second.queues))
+        .or_else(|| rows(&engine.stations, &second.stations))
 }

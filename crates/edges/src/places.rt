@@ -8,6 +8,7 @@ pub(crate) fn change<T, F: FnOnce(&mut T)>(places: &mut [T], at: usize, edit: F)
     }
 }
 
+// Some other programs of the tests write these three lines out: a crate for them would be longer.
 pub(crate) fn set<T: Copy>(places: &mut [T], at: usize, value: T) {
     change(places, at, |place| *place = value);
 }

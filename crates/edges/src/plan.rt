@@ -4,7 +4,7 @@ use crate::cause::{Cause, Failure};
 use crate::kind::Kind;
 use std::alloc::{AllocError, Global};
 
-// What an image says of a node.
+// What an image says of a node. Its kind is a number, since it may be no kind.
 #[derive(Clone, Copy)]
 pub(crate) struct Core {
     pub kind: u8,
@@ -30,30 +30,24 @@ pub(crate) struct Plan {
 
 fn read_cores(alloc: Global, kinds: &[u8], parameters: &[u8]) -> Result<Vec<Core>, AllocError> {
     let (parameters, _) = parameters.as_chunks::<4>();
-    let mut cores = Vec::new(alloc);
-    for (kind, parameter) in kinds.iter().zip(parameters.iter()) {
-        cores.push(Core {
-            kind: *kind,
-            parameter: i32::from_le_bytes(*parameter),
-        })?;
-    }
-    Ok(cores)
+    let core = |(kind, parameter): (&u8, &[u8; 4])| Core {
+        kind: *kind,
+        parameter: i32::from_le_bytes(*parameter),
+    };
+    kinds.iter().zip(parameters.iter()).map(core).collect(alloc)
 }
 
 fn read_wires(alloc: Global, wires: &[u8], depths: &[u8]) -> Result<Vec<Wire>, AllocError> {
     let (ends, _) = wires.as_chunks::<3>();
     let (depths, _) = depths.as_chunks::<2>();
-    let mut wires = Vec::new(alloc);
-    for ([from, to, port], [stations, depth]) in ends.iter().zip(depths.iter()) {
-        wires.push(Wire {
-            from: *from,
-            to: *to,
-            port: *port,
-            stations: *stations,
-            depth: *depth,
-        })?;
-    }
-    Ok(wires)
+    let wire = |([from, to, port], [stations, depth]): (&[u8; 3], &[u8; 2])| Wire {
+        from: *from,
+        to: *to,
+        port: *port,
+        stations: *stations,
+        depth: *depth,
+    };
+    ends.iter().zip(depths.iter()).map(wire).collect(alloc)
 }
 
 // The last eight bits of a number.

@@ -1,14 +1,15 @@
 // What is counted, and the first difference between an answer of the crates under test and one of the
 // second simulator. A group's netlists are counted from 0.
 
-use crate::library::{State, Station};
-use crate::mismatch::{Field, Mismatch, between, rows};
+use crate::cause::Cause;
+use crate::library::{Refusal, State, Station};
+use crate::mismatch::{Field, Mismatch, Shown, between, rows};
 use std::alloc::{AllocError, Global};
 use std::collections::BTreeMap;
 use std::{fmt, io};
 
 // What is counted anew in each group.
-#[derive(Clone, Copy)]
+#[derive(Clone, Copy, Default)]
 pub(crate) struct Counts {
     pub netlists: u64,
     pub steps: u64,
@@ -17,15 +18,6 @@ pub(crate) struct Counts {
     pub strict: u64,
     pub differences: u64,
 }
-
-const NOTHING: Counts = Counts {
-    netlists: 0,
-    steps: 0,
-    runs: 0,
-    refusals: 0,
-    strict: 0,
-    differences: 0,
-};
 
 // A mismatch, and where it was found.
 #[derive(Clone, Copy)]
@@ -81,7 +73,7 @@ fn add_one(count: &mut u64) {
 impl Report {
     pub(crate) fn new(alloc: Global) -> Self {
         Report {
-            counts: NOTHING,
+            counts: Counts::default(),
             cycle: 0,
             first: None,
             times: BTreeMap::new(alloc),
@@ -89,7 +81,7 @@ impl Report {
     }
 
     pub(crate) fn begin_group(&mut self) {
-        self.counts = NOTHING;
+        self.counts = Counts::default();
         self.cycle = 0;
         self.first = None;
     }
@@ -105,23 +97,13 @@ impl Report {
                 cycle: self.cycle,
                 mismatch,
             };
-            self.first = Some(self.first.unwrap_or(difference));
+            self.first.get_or_insert(difference);
             add_one(&mut self.counts.differences);
         }
     }
 
-    pub(crate) fn same(&mut self, field: Field, place: usize, engine: u64, second: u64) {
+    pub(crate) fn same<T: Shown>(&mut self, field: Field, place: usize, engine: T, second: T) {
         self.note(Mismatch::of(field, place, engine, second));
-    }
-
-    // The same of numbers of calls, letters and the like.
-    pub(crate) fn same_byte(&mut self, field: Field, place: usize, engine: u8, second: u8) {
-        self.same(field, place, u64::from(engine), u64::from(second));
-    }
-
-    // The same of values, which are shown as their 32 bits.
-    pub(crate) fn same_value(&mut self, field: Field, place: usize, engine: i32, second: i32) {
-        self.note(Mismatch::of_values(field, place, engine, second));
     }
 
     pub(crate) fn same_rows(&mut self, engine: &[Station], second: &[Station]) {
@@ -132,25 +114,41 @@ impl Report {
         self.note(between(engine, second));
     }
 
-    // The number of a call, which is counted as a refusal or under the name of the call.
-    pub(crate) fn same_number(
+    // Why a call was refused, if it was. The two enums are compared by their numbers, 0 for none.
+    pub(crate) fn same_refusal(
+        &mut self,
+        field: Field,
+        engine: Option<Refusal>,
+        second: Option<Cause>,
+    ) {
+        let engine = engine.map_or(0, Refusal::number);
+        self.same(field, 0, engine, second.map_or(0, Cause::number));
+    }
+
+    // A call is counted as a refusal or under its name.
+    fn count(&mut self, call: Call, refusal: Option<Refusal>) -> Result<(), AllocError> {
+        let count = match (refusal, call) {
+            (Some(refusal), _) => {
+                add_one(self.times.entry(refusal.number())?.or_insert(0));
+                &mut self.counts.refusals
+            }
+            (None, Call::Step) => &mut self.counts.steps,
+            (None, Call::Run) => &mut self.counts.runs,
+            (None, Call::Strict) => &mut self.counts.strict,
+        };
+        add_one(count);
+        Ok(())
+    }
+
+    // The same of a call that is counted.
+    pub(crate) fn same_call(
         &mut self,
         call: Call,
-        engine: u8,
-        second: u8,
+        engine: Option<Refusal>,
+        second: Option<Cause>,
     ) -> Result<(), AllocError> {
-        self.same_byte(Field::Number, 0, engine, second);
-        if engine != 0 {
-            add_one(self.times.entry(engine)?.or_insert(0));
-            add_one(&mut self.counts.refusals);
-            return Ok(());
-        }
-        match call {
-            Call::Step => add_one(&mut self.counts.steps),
-            Call::Run => add_one(&mut self.counts.runs),
-            Call::Strict => add_one(&mut self.counts.strict),
-        }
-        Ok(())
+        self.same_refusal(Field::Number, engine, second);
+        self.count(call, engine)
     }
 
     // ---- printing

@@ -8,22 +8,21 @@ use crate::damage::roll_value;
 use crate::dice::Dice;
 use crate::fits::row_held;
 use crate::library;
-use crate::library::{Benched, Coming, Held, Queue, Records, Station};
+use crate::library::{Benched, Coming, Held, Queue, Station};
 use crate::mismatch::Field;
 use crate::plan::{Wire, byte};
 use crate::report::{Call, Report};
 use crate::tester::Tester;
 use std::alloc::{AllocError, Global};
+use std::array;
 
 // How many rows there are, and the cycles of each.
 const ROWS: u8 = 100;
 
 const CYCLES: u8 = 40;
 
-pub(crate) const NO_RECORDS: Records = [Station {
-    tokens: [0; 2],
-    count: 0,
-}; 9];
+// The most records of a row, one more than a bench takes.
+const MOST: usize = 9;
 
 // ---- records at random
 
@@ -47,22 +46,33 @@ fn roll_station(dice: &mut Dice) -> Station {
     }
 }
 
-fn roll_records(dice: &mut Dice) -> Records {
-    let mut records = NO_RECORDS;
-    for station in records.iter_mut() {
-        *station = roll_station(dice);
-    }
-    records
+// So many records are on the bench; the others are thrown for too.
+fn roll_row(alloc: Global, dice: &mut Dice) -> Result<Vec<Station>, AllocError> {
+    let length = dice.roll(MOST + 1);
+    let mut row: Vec<Station> = (0..MOST).map(|_| roll_station(dice)).collect(alloc)?;
+    row.truncate(length);
+    Ok(row)
 }
 
+// The value is thrown for even if no token comes.
 fn roll_coming(dice: &mut Dice) -> Coming {
-    let valid = dice.one_in(2);
+    let comes = dice.one_in(2);
     let stop = dice.one_in(2);
     let value = roll_value(dice);
-    Coming { valid, value, stop }
+    Coming {
+        link: comes.then_some(value),
+        stop,
+    }
 }
 
 // ---- the second simulator's bench
+
+// What leaves a row in a cycle, and whether the incoming token was taken.
+#[derive(Clone, Copy)]
+pub(crate) struct Passed {
+    leaving: Reading,
+    taken: bool,
+}
 
 // A channel that has the row as its stations.
 fn channel(alloc: Global, row: &[Station], coming: Coming) -> Result<Channel, AllocError> {
@@ -73,20 +83,16 @@ fn channel(alloc: Global, row: &[Station], coming: Coming) -> Result<Channel, Al
         stations: byte(row.len()),
         depth: 1,
     };
-    let mut stations = [Station::empty(); 8];
-    for (place, station) in stations.iter_mut().zip(row.iter()) {
-        *place = *station;
-    }
     let held = Held {
-        pending: u8::from(coming.valid),
-        row: stations,
+        pending: u8::from(coming.link.is_some()),
+        row: array::from_fn(|j| row.get(j).copied().unwrap_or(Station::empty())),
         queue: Queue::empty(),
     };
-    Channel::load(alloc, wire, &held, coming.value)
+    Channel::load(alloc, wire, &held, coming.link.unwrap_or(0))
 }
 
 // A cycle of a row, which is changed.
-fn cycle(alloc: Global, row: &mut [Station], coming: Coming) -> Result<Benched, Failure> {
+pub(crate) fn cycle(alloc: Global, row: &mut [Station], coming: Coming) -> Result<Passed, Failure> {
     if row.is_empty() || 8 < row.len() {
         return Err(Failure::Refused(Cause::RowLength));
     }
@@ -97,31 +103,9 @@ fn cycle(alloc: Global, row: &mut [Station], coming: Coming) -> Result<Benched, 
     let leaving = Reading::new(channel.arriving(), coming.stop);
     channel.pass_links(coming.stop);
     channel.store_row(row);
-    Ok(Benched {
-        number: 0,
-        letter: leaving.letter,
-        value: leaving.value,
-        taken: coming.valid && !channel.waits(),
-    })
-}
-
-// The same with a refusal's number in the answer, for the first so many records.
-pub(crate) fn bench(
-    alloc: Global,
-    records: &mut Records,
-    length: usize,
-    coming: Coming,
-) -> Result<Benched, AllocError> {
-    let lent = length.min(records.len());
-    let answer = answered(cycle(alloc, &mut records[..lent], coming))?;
-    Ok(match answer {
-        Ok(benched) => benched,
-        Err(refusal) => Benched {
-            number: refusal.number(),
-            letter: 0,
-            value: 0,
-            taken: false,
-        },
+    Ok(Passed {
+        leaving,
+        taken: coming.link.is_some() && !channel.waits(),
     })
 }
 
@@ -130,31 +114,31 @@ pub(crate) fn bench(
 pub(crate) fn same_answer(
     report: &mut Report,
     engine: Benched,
-    second: Benched,
+    second: Result<Passed, Cause>,
 ) -> Result<(), AllocError> {
-    report.same_number(Call::Step, engine.number, second.number)?;
-    report.same_byte(Field::Letter, 0, engine.letter, second.letter);
-    report.same_value(Field::Value, 0, engine.value, second.value);
-    let second_taken = u8::from(second.taken);
-    report.same_byte(Field::Taken, 0, u8::from(engine.taken), second_taken);
+    report.same_call(Call::Step, engine.err(), second.err())?;
+    if let (Ok(engine), Ok(Passed { leaving, taken })) = (engine, second) {
+        report.same(Field::Letter, 0, engine.letter, leaving.letter as u8);
+        report.same(Field::Value, 0, engine.value, leaving.value);
+        report.same(Field::Taken, 0, u8::from(engine.taken), u8::from(taken));
+    }
     Ok(())
 }
 
-fn row_cycle(tester: &mut Tester, records: &mut Records, length: usize) -> Result<(), AllocError> {
+fn row_cycle(tester: &mut Tester, row: &mut Vec<Station>) -> Result<(), AllocError> {
     let coming = roll_coming(&mut tester.dice);
-    let mut expected = *records;
-    let second = bench(tester.alloc, &mut expected, length, coming)?;
-    let engine = library::bench_row(records, length, coming);
+    let mut expected = row.clone()?;
+    let second = answered(cycle(tester.alloc, &mut expected, coming))?;
+    let engine = library::bench_row(row, coming);
     same_answer(&mut tester.report, engine, second)?;
-    tester.report.same_rows(records, &expected);
+    tester.report.same_rows(row, &expected);
     Ok(())
 }
 
 fn row_cycles(tester: &mut Tester) -> Result<(), AllocError> {
-    let length = tester.dice.roll(10);
-    let mut records = roll_records(&mut tester.dice);
+    let mut row = roll_row(tester.alloc, &mut tester.dice)?;
     for _ in 0..CYCLES {
-        row_cycle(tester, &mut records, length)?;
+        row_cycle(tester, &mut row)?;
     }
     tester.report.end_netlist();
     Ok(())

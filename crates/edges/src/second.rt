@@ -1,13 +1,14 @@
 // The second simulator's calls: a fresh state, a step, a run and a strict run. Each looks for its numbers
-// in their order.
+// in their order. They take what the library's calls take, and an allocator before it, as all that
+// makes a `Vec` does.
 
-use crate::cause::{Cause, Failure};
+use crate::cause::{Cause, Failure, answered};
 use crate::chip::{Chip, LAST};
 use crate::fits::fits;
 use crate::history::History;
 use crate::library::State;
 use crate::plan::Plan;
-use std::alloc::Global;
+use std::alloc::{AllocError, Global};
 
 pub(crate) fn judge(alloc: Global, image: &[u8]) -> Result<(), Failure> {
     let _plan = Plan::accepted(alloc, image)?;
@@ -44,12 +45,30 @@ pub(crate) fn step(
     Ok(chip)
 }
 
-// A run that has begun: the chip after its steps, and whether a word ended it.
-#[derive(Drop)]
+// The steps of a run, the state after them, and why it ended before its words did.
+#[derive(Clone, Copy)]
 pub(crate) struct RunDone {
-    pub chip: Chip,
     pub steps: u32,
-    pub ended: Result<(), Cause>,
+    pub state: State,
+    pub stopped: Option<Cause>,
+}
+
+fn steps(mut chip: Chip, words: &[u64]) -> Result<RunDone, AllocError> {
+    let mut steps: u32 = 0;
+    let mut stopped = None;
+    for word in words.iter() {
+        stopped = chip.stall(*word).err();
+        if stopped.is_some() {
+            break;
+        }
+        chip.cycle()?;
+        steps = steps.saturating_add(1);
+    }
+    Ok(RunDone {
+        steps,
+        state: chip.state(),
+        stopped,
+    })
 }
 
 pub(crate) fn run(
@@ -57,19 +76,15 @@ pub(crate) fn run(
     image: &[u8],
     state: &State,
     words: &[u64],
-) -> Result<RunDone, Failure> {
-    let mut chip = load(alloc, image, state)?;
-    let mut steps: u32 = 0;
-    let mut ended = Ok(());
-    for word in words.iter() {
-        ended = chip.stall(*word);
-        if ended.is_err() {
-            break;
-        }
-        chip.cycle()?;
-        steps = steps.saturating_add(1);
+) -> Result<RunDone, AllocError> {
+    match answered(load(alloc, image, state))? {
+        Ok(chip) => steps(chip, words),
+        Err(cause) => Ok(RunDone {
+            steps: 0,
+            state: *state,
+            stopped: Some(cause),
+        }),
     }
-    Ok(RunDone { chip, steps, ended })
 }
 
 // The strict values up to a cycle.

@@ -1,6 +1,7 @@
 // The token rule, held against the second simulator: the tokens that arrive at the end of a channel, in
 // their order, are the values of its from node in the strict system.
 
+use crate::channel::Letter;
 use crate::chip::Chip;
 use crate::history::History;
 use crate::library::State;
@@ -31,10 +32,10 @@ impl Streams {
     pub(crate) fn arrive(&mut self, report: &mut Report, chip: &Chip) {
         let streams = chip.channels.iter().zip(self.arrived.iter_mut());
         for (c, (channel, arrived)) in streams.enumerate() {
-            if channel.reading.letter == b'T' {
+            if channel.reading.letter == Letter::Passes {
                 let from = usize::from(channel.wire.from);
                 let value = self.history.value(*arrived, from).unwrap_or(0);
-                report.same_value(Field::StreamOfChannel, c, channel.reading.value, value);
+                report.same(Field::StreamOfChannel, c, channel.reading.value, value);
                 *arrived = arrived.saturating_add(1);
             }
         }
@@ -44,7 +45,7 @@ impl Streams {
     pub(crate) fn shown(&self, report: &mut Report, state: &State, nodes: usize) {
         for (n, node) in state.nodes.iter().enumerate().take(nodes) {
             let value = self.history.value(node.firings as usize, n).unwrap_or(0);
-            report.same_value(Field::StrictValueOfNode, n, node.value, value);
+            report.same(Field::StrictValueOfNode, n, node.value, value);
         }
     }
 }

@@ -1,12 +1,12 @@
 // Each call made twice, by the crates under test and by the second simulator, and all that came of it
 // compared.
 
-use crate::cause::{answered, number_of};
+use crate::cause::answered;
 use crate::channel::Reading;
 use crate::chip::Chip;
 use crate::dice::Dice;
 use crate::history::History;
-use crate::library::{Rooms, State, Stepped, UNTOUCHED};
+use crate::library::{Refusal, Rooms, State, Stepped, UNTOUCHED};
 use crate::mismatch::Field;
 use crate::report::{Call, Report};
 use crate::{library, second};
@@ -19,15 +19,9 @@ pub(crate) struct Tester {
     pub report: Report,
 }
 
-// What a place that nobody writes has in the end.
-const UNREAD: Reading = Reading {
-    letter: UNTOUCHED,
-    value: UNTOUCHED as i32,
-};
-
 // What the second simulator read on a channel, if it made a cycle.
-fn reading(chip: &Option<Chip>, c: usize) -> Option<Reading> {
-    let channel = chip.as_ref()?.channels.get(c)?;
+fn reading(chip: Option<&Chip>, c: usize) -> Option<Reading> {
+    let channel = chip?.channels.get(c)?;
     Some(channel.reading)
 }
 
@@ -45,13 +39,20 @@ impl Tester {
         self.report.begin_group();
     }
 
-    // Answers the judge's number.
-    pub(crate) fn judge(&mut self, image: &[u8]) -> Result<u8, AllocError> {
-        let number = library::judge(image);
+    // Answers the judge's refusal.
+    pub(crate) fn judge(&mut self, image: &[u8]) -> Result<Option<Refusal>, AllocError> {
+        let engine = library::judge(image);
         let second = answered(second::judge(self.alloc, image))?;
-        self.report
-            .same_byte(Field::Judge, 0, number, number_of(&second));
-        Ok(number)
+        self.report.same_refusal(Field::Judge, engine, second.err());
+        Ok(engine)
+    }
+
+    // That a state is the second simulator's, or the one before, if no chip came of the call.
+    fn same_state(&mut self, engine: &State, chip: Option<&Chip>, before: &State) {
+        match chip {
+            Some(chip) => self.report.same_state(engine, &chip.state()),
+            None => self.report.same_state(engine, before),
+        }
     }
 
     // The fresh state of both. Answers the engine's, and the second simulator's chip if it was not refused.
@@ -59,23 +60,23 @@ impl Tester {
         let engine = library::fresh(image);
         let second = answered(second::fresh(self.alloc, image))?;
         self.report.cycle = 0;
+        let cause = second.as_ref().err().copied();
         self.report
-            .same_byte(Field::Fresh, 0, engine.number, number_of(&second));
+            .same_refusal(Field::Fresh, engine.refusal, cause);
         let chip = second.ok();
-        let state = chip.as_ref().map_or(library::zeros(), |chip| chip.state());
-        self.report.same_state(&engine.state, &state);
+        self.same_state(&engine.state, chip.as_ref(), &State::zeros());
         Ok((engine.state, chip))
     }
 
     // Every place that was lent: it has what the second simulator read, or what it had before.
-    fn same_places(&mut self, engine: &Stepped, chip: &Option<Chip>) {
+    fn same_places(&mut self, engine: &Stepped, chip: Option<&Chip>) {
         for (c, letter) in engine.letters.iter().enumerate() {
-            let second = reading(chip, c).unwrap_or(UNREAD).letter;
-            self.report.same_byte(Field::Letter, c, *letter, second);
+            let second = reading(chip, c).map_or(UNTOUCHED, |reading| reading.letter as u8);
+            self.report.same(Field::Letter, c, *letter, second);
         }
         for (c, value) in engine.values.iter().enumerate() {
-            let second = reading(chip, c).unwrap_or(UNREAD).value;
-            self.report.same_value(Field::Value, c, *value, second);
+            let second = reading(chip, c).map_or(i32::from(UNTOUCHED), |reading| reading.value);
+            self.report.same(Field::Value, c, *value, second);
         }
     }
 
@@ -91,12 +92,12 @@ impl Tester {
         let second = answered(second::step(self.alloc, image, state, word, room))?;
         let engine = library::step(self.alloc, image, state, word, rooms)?;
         self.report.cycle = state.cycles;
+        let cause = second.as_ref().err().copied();
         self.report
-            .same_number(Call::Step, engine.answer.number, number_of(&second))?;
+            .same_call(Call::Step, engine.answer.refusal, cause)?;
         let chip = second.ok();
-        self.same_places(&engine, &chip);
-        let after = chip.as_ref().map_or(*state, |chip| chip.state());
-        self.report.same_state(&engine.answer.state, &after);
+        self.same_places(&engine, chip.as_ref());
+        self.same_state(&engine.answer.state, chip.as_ref(), state);
         Ok((engine, chip))
     }
 
@@ -108,18 +109,23 @@ impl Tester {
         words: &[u64],
     ) -> Result<State, AllocError> {
         let engine = library::run(image, state, words);
-        let second = answered(second::run(self.alloc, image, state, words))?;
-        let (number, steps, after) = match second {
-            Ok(run) => (number_of(&run.ended), run.steps, run.chip.state()),
-            Err(refusal) => (refusal.number(), 0, *state),
-        };
+        let second = second::run(self.alloc, image, state, words)?;
         self.report.cycle = state.cycles;
         self.report
-            .same_number(Call::Run, engine.answer.number, number)?;
+            .same_call(Call::Run, engine.stopped, second.stopped)?;
         self.report
-            .same(Field::Steps, 0, u64::from(engine.steps), u64::from(steps));
-        self.report.same_state(&engine.answer.state, &after);
-        Ok(after)
+            .same(Field::Steps, 0, engine.steps, second.steps);
+        self.report.same_state(&engine.state, &second.state);
+        Ok(second.state)
+    }
+
+    // Every place that was lent: it has the strict value, or what it had before.
+    fn same_values(&mut self, engine: &[i32], history: Option<&History>, cycle: u32) {
+        for (n, value) in engine.iter().enumerate() {
+            let second = history.and_then(|history| history.value(cycle as usize, n));
+            let second = second.unwrap_or(i32::from(UNTOUCHED));
+            self.report.same(Field::StrictValue, n, *value, second);
+        }
     }
 
     // A strict run of both.
@@ -132,18 +138,9 @@ impl Tester {
         let engine = library::strict(self.alloc, image, cycle, room)?;
         let second = answered(second::strict(self.alloc, image, cycle, room))?;
         self.report.cycle = cycle;
-        self.report
-            .same_number(Call::Strict, engine.number, number_of(&second))?;
-        let history = second.ok();
-        for (n, value) in engine.values.iter().enumerate() {
-            let second = strict_value(&history, cycle, n).unwrap_or(UNREAD.value);
-            self.report
-                .same_value(Field::StrictValue, n, *value, second);
-        }
+        let cause = second.as_ref().err().copied();
+        self.report.same_call(Call::Strict, engine.refusal, cause)?;
+        self.same_values(&engine.values, second.as_ref().ok(), cycle);
         Ok(())
     }
-}
-
-fn strict_value(history: &Option<History>, cycle: u32, n: usize) -> Option<i32> {
-    history.as_ref()?.value(cycle as usize, n)
 }

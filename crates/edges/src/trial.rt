@@ -2,7 +2,6 @@
 // between, strict runs, and images that something was changed in.
 
 use crate::chip::LAST;
-use crate::damage;
 use crate::draft::{Shape, roll_plan};
 use crate::library::{Rooms, State};
 use crate::places::set;
@@ -30,12 +29,6 @@ struct Trial {
     image: Vec<u8>,
 }
 
-fn with_cycles(state: &State, cycles: u32) -> State {
-    let mut late = *state;
-    late.cycles = cycles;
-    late
-}
-
 // ---- steps
 
 impl Trial {
@@ -59,12 +52,16 @@ impl Trial {
         }
     }
 
-    // A step with causes for some of the numbers 22, 12 and 13.
+    // A step with causes for some of the numbers 22, 12 and 13. One throw decides on all three: with
+    // three, the same seeds would draw other netlists.
     fn refused_step(&self, tester: &mut Tester, state: &State) -> Result<(), AllocError> {
         let face = tester.dice.roll(8);
         let word = word_above(&mut tester.dice, self.plan.cores.len());
         let rooms = self.short_rooms(tester);
-        let late = with_cycles(state, LAST);
+        let late = State {
+            cycles: LAST,
+            ..*state
+        };
         let state = if face % 2 == 1 { &late } else { state };
         let word = if face / 2 % 2 == 1 { word } else { 0 };
         let rooms = if face / 4 == 1 { rooms } else { PLENTIES };
@@ -73,16 +70,17 @@ impl Trial {
     }
 
     fn spoiled_image(&self, tester: &mut Tester) -> Result<Vec<u8>, AllocError> {
-        damage::spoiled(tester.alloc, &self.image, &mut tester.dice, &self.plan)
+        self.plan
+            .spoiled(tester.alloc, &self.image, &mut tester.dice)
     }
 
     // Three of four cycles are followed by a call that leads nowhere: one that is refused, one from a
-    // changed state, or one of a changed image.
+    // changed state, or one of a changed image. No closures: one throw picks the call.
     fn disturb(&self, tester: &mut Tester, state: &State, word: u64) -> Result<(), AllocError> {
         match tester.dice.roll(4) {
             0 => self.refused_step(tester, state)?,
             1 => {
-                let changed = damage::changed(state, &mut tester.dice, &self.plan);
+                let changed = self.plan.changed(state, &mut tester.dice);
                 tester.step(&self.image, &changed, word, PLENTIES)?;
             }
             2 => {
@@ -159,20 +157,42 @@ impl Trial {
         self.run_some(tester, last, words, count)
     }
 
-    // Some words, and all, from two cycles before the last; all from a changed state; and all with one
-    // exchanged for a word that is refused.
-    fn refused_runs(
+    // All words from a changed state.
+    fn changed_run(
+        &self,
+        tester: &mut Tester,
+        fresh: &State,
+        words: &[u64],
+    ) -> Result<(), AllocError> {
+        let changed = self.plan.changed(fresh, &mut tester.dice);
+        tester.run(&self.image, &changed, words)?;
+        Ok(())
+    }
+
+    // Some words, and all, from two cycles before the last.
+    fn late_runs(
+        &self,
+        tester: &mut Tester,
+        fresh: &State,
+        words: &[u64],
+    ) -> Result<(), AllocError> {
+        let late = State {
+            cycles: LAST - 2,
+            ..*fresh
+        };
+        let count = tester.dice.roll(4);
+        self.run_some(tester, &late, words, count)?;
+        tester.run(&self.image, &late, words)?;
+        Ok(())
+    }
+
+    // All words, with one exchanged for a word that is refused.
+    fn refused_run(
         &self,
         tester: &mut Tester,
         fresh: &State,
         words: &mut [u64],
     ) -> Result<(), AllocError> {
-        let late = with_cycles(fresh, LAST - 2);
-        let changed = damage::changed(fresh, &mut tester.dice, &self.plan);
-        let count = tester.dice.roll(4);
-        self.run_some(tester, &late, words, count)?;
-        tester.run(&self.image, &late, words)?;
-        tester.run(&self.image, &changed, words)?;
         let at = tester.dice.roll(WORDS);
         let refused = word_above(&mut tester.dice, self.plan.cores.len());
         set(words, at, refused);
@@ -219,7 +239,9 @@ impl Trial {
         let mut streams = Streams::new(tester.alloc, &chip)?;
         let last = self.steps_and_run(tester, &mut streams, &fresh, &words)?;
         self.more_words(tester, &last, &words)?;
-        self.refused_runs(tester, &fresh, &mut words)?;
+        self.changed_run(tester, &fresh, &words)?;
+        self.late_runs(tester, &fresh, &words)?;
+        self.refused_run(tester, &fresh, &mut words)?;
         self.strict_runs(tester)?;
         for _ in 0..SPOILED {
             self.changed_image(tester, &last, &words)?;

@@ -28,14 +28,14 @@ pub(crate) enum Pattern {
     Many,
 }
 
-// 2 to the i, and 0 from 64 on.
-fn power(i: usize) -> u64 {
-    if i < 64 { 1 << i } else { 0 }
+// Bit i of a word, if it has one.
+fn bit(i: usize) -> Option<u64> {
+    1u64.checked_shl(u32::try_from(i).ok()?)
 }
 
 // The word of the first nodes.
 fn all(nodes: usize) -> u64 {
-    power(nodes).wrapping_sub(1)
+    bit(nodes).unwrap_or(0).wrapping_sub(1)
 }
 
 // The word in the first cycles of each span, and no stalls in the others.
@@ -53,7 +53,7 @@ fn by_turns(t: usize) -> u64 {
 
 // The word of one of the nodes.
 fn one_of(i: usize, nodes: usize) -> u64 {
-    power(i.checked_rem(nodes).unwrap_or(0))
+    bit(i.checked_rem(nodes).unwrap_or(0)).unwrap_or(0)
 }
 
 impl Pattern {
@@ -95,16 +95,12 @@ impl Pattern {
         dice: &mut Dice,
         nodes: usize,
     ) -> Result<Vec<u64>, AllocError> {
-        let mut words = Vec::new(alloc);
-        for t in 0..WORDS {
-            words.push(self.word(dice, t, nodes))?;
-        }
-        Ok(words)
+        (0..WORDS).map(|t| self.word(dice, t, nodes)).collect(alloc)
     }
 }
 
 // A word with a bit that is no node's, for fewer than 64 nodes.
 pub(crate) fn word_above(dice: &mut Dice, nodes: usize) -> u64 {
     let i = nodes.saturating_add(dice.roll(64));
-    if i < 64 { power(i) } else { u64::MAX }
+    bit(i).unwrap_or(u64::MAX)
 }

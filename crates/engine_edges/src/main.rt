@@ -27,51 +27,19 @@ impl<'a, P: Print> Bench<'a, P> {
     }
 }
 
-// ---- the engine's calls
+// ---- what a call answers
 
-// The number of what stopped a call, 0 for nothing.
-fn number(stopped: Option<Refusal>) -> u8 {
-    stopped.map_or(0, Refusal::number)
+// The number, 0 for no refusal, since that is what is printed.
+fn number_in(answer: Result<State, Refused>) -> u8 {
+    answer.err().map_or(0, |refused| refused.refusal.number())
 }
 
-// The number of an answer, and the state in it.
-fn told(answer: Result<State, Refused>) -> (u8, State) {
-    match answer {
-        Ok(state) => (0, state),
-        Err(refused) => (refused.refusal.number(), refused.state),
-    }
+// The state, which a refused call hands back too.
+fn state_in(answer: Result<State, Refused>) -> State {
+    answer.unwrap_or_else(|refused| refused.state)
 }
 
-impl<'a, P: Print> Bench<'a, P> {
-    // The number, and the fresh state.
-    fn begun(self) -> (u8, State) {
-        told(State::fresh(self.image))
-    }
-
-    fn fresh(self) -> State {
-        let (_, state) = self.begun();
-        state
-    }
-
-    // The number of a step, and the state after it.
-    fn stepped(
-        self,
-        state: State,
-        word: u64,
-        letters: &mut [u8],
-        values: &mut [i32],
-    ) -> (u8, State) {
-        told(engine::step(self.image, state, word, letters, values))
-    }
-
-    // The number of a run, its steps, and the state after it.
-    fn ran(self, state: State, words: &[u64]) -> (u8, u32, State) {
-        let ran = engine::run(self.image, state, words);
-        (number(ran.stopped), ran.steps, ran.state)
-    }
-}
-
-// ---- printing
+// ---- printing. Letters and values are two arrays of numbers, as the C interface lends them.
 
 impl<'a, P: Print> Bench<'a, P> {
     // A letter, and its value unless it is the 0 that an I or an S carries.
@@ -119,6 +87,10 @@ impl<'a, P: Print> Bench<'a, P> {
 // ---- cases
 
 impl<'a, P: Print> Bench<'a, P> {
+    fn fresh(self) -> State {
+        state_in(State::fresh(self.image))
+    }
+
     // One cycle's line, of eight channels at most.
     fn cycle(self, state: State, word: u64, cycle: usize) -> io::Result<State> {
         let channels = usize::from(netlist::channels(self.image)).min(8);
@@ -126,11 +98,11 @@ impl<'a, P: Print> Bench<'a, P> {
         let mut values = [0; 8];
         let letters = &mut letters[..channels];
         let values = &mut values[..channels];
-        let (_, state) = self.stepped(state, word, letters, values);
+        let answer = engine::step(self.image, state, word, letters, values);
         print!(self.rt; "{cycle}")?;
         self.print_places(letters, values)?;
         println!(self.rt;)?;
-        Ok(state)
+        Ok(state_in(answer))
     }
 
     // A trace from the fresh state, a byte a stall word.
@@ -145,9 +117,10 @@ impl<'a, P: Print> Bench<'a, P> {
 
     // A refused image has no state but zeros.
     fn show_fresh(self, label: &str) -> io::Result<()> {
-        let (number, state) = self.begun();
+        let answer = State::fresh(self.image);
+        let number = number_in(answer);
         print!(self.rt; "{label}: {number}")?;
-        self.print_state(&state)
+        self.print_state(&state_in(answer))
     }
 
     // A step on arrays of so many places, six at most.
@@ -163,10 +136,11 @@ impl<'a, P: Print> Bench<'a, P> {
         let mut six_values = [7; 6];
         let letters = &mut six_letters[..letters.min(6)];
         let values = &mut six_values[..values.min(6)];
-        let (number, state) = self.stepped(state, word, letters, values);
+        let answer = engine::step(self.image, state, word, letters, values);
+        let number = number_in(answer);
         print!(self.rt; "{label}: {number}:")?;
         self.print_places(letters, values)?;
-        self.print_state(&state)
+        self.print_state(&state_in(answer))
     }
 
     fn step(self, label: &str, state: State, word: u64) -> io::Result<()> {
@@ -174,10 +148,12 @@ impl<'a, P: Print> Bench<'a, P> {
     }
 
     fn run(self, label: &str, state: State, words: &[u64]) -> io::Result<State> {
-        let (number, steps, state) = self.ran(state, words);
+        let ran = engine::run(self.image, state, words);
+        let number = ran.stopped.map_or(0, Refusal::number);
+        let steps = ran.steps;
         print!(self.rt; "{label}: {number}, {steps} steps")?;
-        self.print_state(&state)?;
-        Ok(state)
+        self.print_state(&ran.state)?;
+        Ok(ran.state)
     }
 }
 
@@ -187,28 +163,20 @@ fn at_cycle(state: State, cycles: u32) -> State {
     State { cycles, ..state }
 }
 
-// The same state but for node 0, channel 0's mark, its first station, or its queue. No closure: each is one line
-// that says which field.
-fn with_firings(mut state: State, firings: u32) -> State {
-    state.nodes[0].firings = firings;
+// The same state with something changed.
+fn with<F: FnOnce(&mut State)>(mut state: State, edit: F) -> State
+    requires { F.IsAlwaysCallable edit }
+{
+    edit(&mut state);
     state
 }
 
-fn with_mark(mut state: State, mark: u8) -> State {
-    state.pending[0] = mark;
-    state
-}
-
-fn with_station(mut state: State, token: i32, count: u8) -> State {
-    state.stations[0].tokens[0] = token;
-    state.stations[0].count = count;
-    state
-}
-
-fn with_queue(mut state: State, token: i32, count: u8) -> State {
-    state.queues[0].tokens[0] = token;
-    state.queues[0].count = count;
-    state
+// A queue of channel 0 with so many tokens, of which the first place has a 7.
+fn with_queue(state: State, count: u8) -> State {
+    with(state, |state| {
+        state.queues[0].tokens[0] = 7;
+        state.queues[0].count = count;
+    })
 }
 
 // The numbers of a step, alone and with the causes of those that come after; `short` is the same
@@ -216,7 +184,7 @@ fn with_queue(mut state: State, token: i32, count: u8) -> State {
 fn show_numbers<P: Print>(bench: Bench<'_, P>, short: Bench<'_, P>) -> io::Result<()> {
     let fresh = bench.fresh();
     let last = at_cycle(fresh, 1000000);
-    let unmarked = with_mark(fresh, 0);
+    let unmarked = with(fresh, |state| state.pending[0] = 0);
     bench.step("no stalls", fresh, 0)?;
     bench.step_on("all stalled, 4 places", fresh, 31, 4, 4)?;
     bench.step_on("3 letters", fresh, 0, 3, 6)?;
@@ -226,7 +194,11 @@ fn show_numbers<P: Print>(bench: Bench<'_, P>, short: Bench<'_, P>) -> io::Resul
     bench.step("cycle 999,999", at_cycle(fresh, 999999), 0)?;
     bench.step("cycle 1,000,000", last, 0)?;
     bench.step_on("cycle 1,000,000, word 32, 3 values", last, 32, 6, 3)?;
-    bench.step("cycle 1,000,000, no mark, word 32", with_mark(last, 0), 32)?;
+    bench.step(
+        "cycle 1,000,000, no mark, word 32",
+        with(last, |state| state.pending[0] = 0),
+        32,
+    )?;
     short.step("a byte short, no mark", unmarked, 0)
 }
 
@@ -234,18 +206,25 @@ fn show_numbers<P: Print>(bench: Bench<'_, P>, short: Bench<'_, P>) -> io::Resul
 fn show_misfits<P: Print>(bench: Bench<'_, P>) -> io::Result<()> {
     let fresh = bench.fresh();
     bench.step("cycle 1,000,001", at_cycle(fresh, 1000001), 0)?;
-    bench.step("fired in no cycle", with_firings(fresh, 1), 0)?;
-    bench.step("mark 2", with_mark(fresh, 2), 0)?;
-    bench.step("3 tokens in a queue of 2", with_queue(fresh, 7, 3), 0)?;
-    bench.step("a token in an empty queue", with_queue(fresh, 7, 0), 0)?;
-    bench.step("a station that is not there", with_station(fresh, 7, 1), 0)?;
-    bench.step("no mark", with_mark(fresh, 0), 0)
+    let fired = with(fresh, |state| state.nodes[0].firings = 1);
+    let twice_marked = with(fresh, |state| state.pending[0] = 2);
+    let unmarked = with(fresh, |state| state.pending[0] = 0);
+    let station = with(fresh, |state| {
+        state.stations[0].tokens[0] = 7;
+        state.stations[0].count = 1;
+    });
+    bench.step("fired in no cycle", fired, 0)?;
+    bench.step("mark 2", twice_marked, 0)?;
+    bench.step("3 tokens in a queue of 2", with_queue(fresh, 3), 0)?;
+    bench.step("a token in an empty queue", with_queue(fresh, 0), 0)?;
+    bench.step("a station that is not there", station, 0)?;
+    bench.step("no mark", unmarked, 0)
 }
 
 fn show_runs<P: Print>(bench: Bench<'_, P>, short: Bench<'_, P>) -> io::Result<()> {
     let fresh = bench.fresh();
     let late = at_cycle(fresh, 999998);
-    let unmarked = with_mark(fresh, 0);
+    let unmarked = with(fresh, |state| state.pending[0] = 0);
     bench.run("words 1 0 32 0", fresh, &[1, 0, 32, 0])?;
     bench.run("words 1 0 32 0 from cycle 999,998", late, &[1, 0, 32, 0])?;
     bench.run("words 1 0 from cycle 999,998", late, &[1, 0])?;
@@ -267,7 +246,7 @@ fn show_limit<P: Print>(bench: Bench<'_, P>, words: &[u64]) -> io::Result<()> {
     let mut state = bench.fresh();
     bench.run("three words", state, &[0, 0, 0])?;
     for _ in 0..9 {
-        (_, _, state) = bench.ran(state, words);
+        state = engine::run(bench.image, state, words).state;
     }
     let last = bench.run("words up to cycle 1,000,000", state, words)?;
     bench.run("no words at cycle 1,000,000", last, &[])?;

@@ -5,6 +5,7 @@
 // for the one without stalls, `s` for the other.
 #![tactic(auto)]
 
+use engine::Ran;
 use refusal::Refusal;
 use state::State;
 use std::io;
@@ -18,12 +19,10 @@ fn drawn(x: u64) -> u64 {
     b ^ (b << 17)
 }
 
-// A word of which the bits below N are set.
+// A word of which the bits below N are set, up to 64 of them.
 fn below(nodes: u8) -> u64 {
-    match nodes {
-        1..=64 => u64::MAX >> (64 - nodes),
-        _ => 0,
-    }
+    let above = 1u64.checked_shl(u32::from(nodes)).unwrap_or(0);
+    above.wrapping_sub(1)
 }
 
 // Each word is four draws and-ed, so that a bit is set in one of sixteen, without the bits at or
@@ -80,27 +79,20 @@ impl Checksum {
     }
 }
 
-// No `sum`: it asks that the sum fits, and that did not prove.
+// No `sum`: it asks that the sum fits, and behind the reference nothing is known of how many nodes there are.
 fn firings(state: &State) -> u64 {
-    let mut firings = 0;
-    for node in &state.nodes {
-        firings += u64::from(node.firings);
-    }
-    firings
-}
-
-// The steps and the number of a run from the fresh state, and the state after it.
-fn ran(image: &[u8], words: &[u64]) -> (u32, u8, State) {
-    let fresh = match State::fresh(image) {
-        Ok(state) => state,
-        Err(refused) => refused.state,
-    };
-    let ran = engine::run(image, fresh, words);
-    (ran.steps, ran.stopped.map_or(0, Refusal::number), ran.state)
+    let firings = state.nodes.iter().map(|node| u64::from(node.firings));
+    firings.fold(0, u64::saturating_add)
 }
 
 fn show(rt: &impl Print, label: &str, image: &[u8], words: &[u64]) -> io::Result<()> {
-    let (steps, number, state) = ran(image, words);
+    let fresh = State::fresh(image).unwrap_or_else(|refused| refused.state);
+    let Ran {
+        state,
+        steps,
+        stopped,
+    } = engine::run(image, fresh, words);
+    let number = stopped.map_or(0, Refusal::number);
     let firings = firings(&state);
     let mut checksum = Checksum(0);
     checksum.add_state(&state);

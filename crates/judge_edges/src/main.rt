@@ -64,7 +64,8 @@ fn wire(i: u8) -> [u8; 3] {
 }
 
 // An image of n nodes and c channels: nodes 0 to 31 are sum nodes and the others hold nodes. Each
-// channel has 8 stations while they last, and a queue of depth 1.
+// channel has 8 stations while they last, and a queue of depth 1. Kinds are numbers here: these are an
+// image's bytes, and a case writes some that are no kind.
 fn sized(alloc: Global, n: u8, c: u8, stations: u16) -> Result<Vec<u8>, AllocError> {
     let mut image = vec![in alloc; n, c]?;
     for i in 0..n {
@@ -83,7 +84,8 @@ fn sized(alloc: Global, n: u8, c: u8, stations: u16) -> Result<Vec<u8>, AllocErr
     Ok(image)
 }
 
-// The same image with other bytes at some places.
+// The same image with other bytes at some places. The program edges has a function for the three lines
+// that set a place: a crate for the two would be longer.
 fn with(image: &Vec<u8>, changes: &[(usize, u8)]) -> Result<Vec<u8>, AllocError> {
     let mut changed = image.clone()?;
     for &(at, byte) in changes {

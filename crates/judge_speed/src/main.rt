@@ -7,7 +7,8 @@ use std::io;
 const TIMES: u32 = 100000;
 
 // Byte 66 is the first node's parameter where there are 64 nodes: no number depends on it, and the
-// compiler cannot take one call for another.
+// compiler cannot take one call for another. No bare `as u8`: a cast may lose nothing, so the remainder
+// says what is left out.
 fn is_accepted(image: &mut [u8], turn: u32) -> bool {
     if let Some(parameter) = image.get_mut(66) {
         *parameter = (turn % 256) as u8;

@@ -22,7 +22,7 @@ const CASES: [(&str, u32, usize); 10] = [
 fn show(rt: &impl Print, label: &str, image: &[u8], cycle: u32, room: usize) -> io::Result<()> {
     let mut values = [7i32; 66];
     let run = strict::strict(image, cycle, &mut values[..room.min(66)]);
-    let number = run.map_or_else(|refusal| refusal.number(), |()| 0);
+    let number = run.err().map_or(0, |refusal| refusal.number());
     print!(rt; "{label}: {number}:")?;
     for value in values {
         print!(rt; " {value}")?;
