@@ -4,7 +4,7 @@
 mod accepted;
 mod passes;
 
-ghost use Rattle.std.specs.Prelude.{◌||◌, ◌≡◌, ◌^◌, ◌<◌, ltb, get_or};
+ghost use Rattle.std.specs.Prelude.{◌||◌, ◌≡◌, ltb, get_or};
 ghost use Rattle.laws.specs.Range.{outside};
 ghost use Rattle.laws.specs.Signed.{signed};
 ghost use Rattle.refusal.specs.Number.{number_of};
@@ -65,10 +65,10 @@ fn kind_at(image: &[u8], n: u8) -> u8
     byte_at(image, 2 + n as usize)
 }
 
-// The four bytes at a place as a number, low byte first, each 0 past the end. For other crates: to read what
-// follows an image, such as a trace's words.
-pub fn four_bytes(image: &[u8], at: usize) -> u64
-    ensures { (result ≡ four_bytes image.now at) × (result < 2 ^ 32) }
+// The four bytes at a place as a number, low byte first, each 0 past the end. For other crates: to read numbers
+// that are kept as bytes.
+pub fn four_bytes(image: &[u8], at: usize) -> u32
+    ensures { result ≡ four_bytes image.now at }
 {
     if image.len() <= at {
         return 0;
@@ -79,7 +79,7 @@ pub fn four_bytes(image: &[u8], at: usize) -> u64
         byte_at(image, at + 2),
         byte_at(image, at + 3),
     ];
-    u32::from_le_bytes(bytes) as u64
+    u32::from_le_bytes(bytes)
 }
 
 // The signed number of the same 32 bits. For other crates: to read tokens that are kept as bytes.
@@ -98,7 +98,7 @@ pub fn core_at(image: &[u8], n: u8) -> Core
     let parameter = four_bytes(image, 2 + nodes(image) as usize + 4 * n as usize);
     Core {
         kind: kind_at(image, n),
-        parameter: as_signed(parameter as u32),
+        parameter: as_signed(parameter),
     }
 }
 
@@ -131,7 +131,8 @@ fn inputs(kind: u8) -> u8
     INPUTS.get(kind as usize).copied().unwrap_or(0)
 }
 
-// Number 2: whether N is not 1 to 64, or C is over 96.
+// Number 2: whether N is not 1 to 64, or C is over 96. Two tests, here and in `passes`, and no range's
+// `contains`: the definition, `outside`, is these two.
 fn bad_sizes(n: u8, c: u8) -> bool
     ensures { result ≡ (outside 1 64 n || ltb 96 c) }
 {
