@@ -121,8 +121,9 @@ fn channel_clear(netlist: Netlist, state: &State, c: u8) -> bool
 pub(crate) fn channels_clear(netlist: Netlist, state: &State) -> bool
     ensures { result ≡ channels_clear netlist.entry.image.now state.now }
 {
-    let channels = usize::from(netlist.channels());
-    let used = (0..netlist.channels()).all(|c| channel_clear(netlist, state, c));
+    let count = netlist.channels();
+    let channels = usize::from(count);
+    let used = (0..count).all(|c| channel_clear(netlist, state, c));
     let marks = state.pending[channels..].iter().all(|mark| *mark == 0);
     let stations = state.stations[8 * channels..]
         .iter()

@@ -32,12 +32,6 @@ pub loop-c-init : goal.loop-c-init
 unfolding table_over table
 loop-c-init c = (omega arith, refl, refl)
 
-pub bounds-state-channel : goal.bounds-state-channel
-bounds-state-channel c = omega (arith, within (goal.at.bounds-state-channel c).After-channel-channel)
-
-pub bounds-state-at-then-length-gt0 : goal.bounds-state-at-then-length-gt0
-bounds-state-at-then-length-gt0 c = omega (arith, within (goal.at.bounds-state-at-then-length-gt0 c).After-channel-channel)
-
 pub loop-c-preserved : goal.loop-c-preserved
 loop-c-preserved c =
     let a = c.args in

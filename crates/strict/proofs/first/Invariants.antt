@@ -1,3 +1,4 @@
+-- `strict::first`: the parameters of the nodes below n are written.
 use mathlib.Core.Path.{◌≡◌}
 use lib.IntN.{pos}
 use Rattle.laws.specs.Lists.{padded}

@@ -1,3 +1,4 @@
+-- `strict::reached`: the values are those of cycle t.
 use mathlib.Core.Path.{◌≡◌}
 use Rattle.strict.specs.Decoded.{values_at}
 use Rattle.strict.proofs.reached.Given as goal

@@ -1,3 +1,4 @@
+-- `strict::System::after`: the values of the nodes below n are the next ones.
 use mathlib.Core.Path.{◌≡◌}
 use Rattle.laws.specs.Table.{table_over}
 use Rattle.strict.specs.System.{value_after}
