@@ -9,7 +9,8 @@ ghost use Rattle.input.specs.Input.{Read};
 use std::{fmt, io};
 
 // What was read. The first `kept` bytes of the buffer are the input's; `length` counts them and
-// those that had no room.
+// those that had no room. A slice in place of `kept` would be no plainer: it would lend the buffer on
+// through `Unread` and what is made of that.
 #[derive(Clone, Copy, Debug, PartialEq, Eq)]
 pub struct Input {
     pub kept: usize,

@@ -1,14 +1,12 @@
 -- Laws of the lines: what a loop over their fields has written after so many of them, and what room is left. Assumes nothing.
 use mathlib.Core.List.{List, [], ◌∷◌, ◌++◌, append_assoc, append-nil, flat_map}
-use Rattle.std.proofs.Common.{⊎_elim, sym, ap, ◌∙◌, not-suc-le-zero, arith, add-one, length-append}
-use Rattle.std.specs.Prelude.{◌≡◌, ℕ, zero, suc, ◌+◌, ◌-◌, ◌<◌, ◌≤◌, ℤ, pos, length, get_or, take}
+use Rattle.std.proofs.Common.{sym, ap, ◌∙◌, arith, length-append}
+use Rattle.std.specs.Prelude.{◌≡◌, ℕ, suc, ◌+◌, ◌-◌, ◌<◌, ◌≤◌, length, get_or, take}
 use Rattle.std.proofs.Math.Path.{refl}
 use Rattle.std.proofs.lemmas.List.{take_more}
 use Rattle.std.proofs.lemmas.List.Folds.{length-flat_map-take}
-use Rattle.laws.specs.Cases.{below_suc}
 use Rattle.laws.specs.Table.{table}
 use Rattle.laws.specs.TableLaws.{table_own}
-use Rattle.text.specs.Lines.{state_at}
 use Rattle.text.specs.Put.{Put}
 use Rattle.text.specs.PutLaws.{put-none, put-after, put_long}
 

@@ -13,7 +13,7 @@ use Rattle.refusal.specs.declared.Refusal.{Refusal}
 use Rattle.refusal.specs.declared.Refusal.TheVariants.{Room}
 use Rattle.text.specs.Ascii.{ascii}
 use Rattle.text.specs.Put.{Put}
-use Rattle.text.specs.PutLaws.{put_one, put-after, put_long, put_front}
+use Rattle.text.specs.PutLaws.{put_one, put-after, put_front}
 use Rattle.text.specs.Write.{written_answer, written_over, WriteDone, write_told, Begins}
 
 module _ (text out : List ℕ) where

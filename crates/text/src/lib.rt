@@ -20,8 +20,8 @@ use refusal::Refusal;
 use relay::Reading;
 
 // ---- parts of a text. Each is stored from a place on; the answer is the place after it. A struct of the
-// slice and the place would be no plainer: a contract names the bytes and the place before and after, and
-// C's callers lend the slice alone.
+// slice and the place would be no plainer: each contract names a text of its own, the bytes and the place
+// before and after, and would take them out of the struct again.
 
 // A way to write items of a type.
 pub trait Text<T: Copy> {
@@ -91,6 +91,7 @@ fn digits(n: u64) -> usize
     n.checked_ilog10().unwrap_or(0) as usize + 1
 }
 
+// A value with its sign: the library's `io::decimal` is for numbers from 0 on.
 #[tactic(auto, using(crate::specs::PutLaws::put_steps, crate::specs::DecimalLaws::signed_minus, crate::specs::DecimalLaws::signed_plain))]
 fn put_signed(value: i32, out: &mut [u8], at: usize) -> usize
     requires { at + length (signed_text value) ≤ length out.old }
@@ -112,7 +113,7 @@ fn signed_length(token: i32) -> usize
     if token < 0 { count + 1 } else { count }
 }
 
-// Whether a letter shows a value.
+// Whether a letter shows a value. It is a byte, as C is handed it.
 #[tactic(auto, unfolding(crate::specs::Lines::shows_value))]
 fn shows_value(letter: u8) -> bool
     ensures { result ≡ shows_value letter }
@@ -170,7 +171,7 @@ impl Measured<u32> for Counts {
     }
 }
 
-// ---- the lines
+// ---- the lines. Each contract names its own text, and the room that is always enough for it.
 
 // The first line of every trace.
 #[tactic(auto, unfolding(crate::specs::Trace::header, crate::specs::Ascii::ascii))]

@@ -30,7 +30,8 @@ const LONGEST: usize = 33570;
 const LINE: usize = 1259;
 
 // A line: the first `length` bytes. Made as a value, it has a contract, which a line that is written to a
-// stream has not. It is no `Vec`: every line has room, and no call can fail.
+// stream has not: which text it begins with, each of those that make one says. It is no `Vec`: every line
+// has room, and no call can fail.
 #[derive(Clone, Copy)]
 struct Line {
     bytes: [u8; LINE],
@@ -112,6 +113,7 @@ fn print_cycles(rt: &impl Print, image: &[u8], input: &[u8]) -> io::Result<State
     ensures { IfOk result (λ state. state ≡ after image.now (fresh_state image.now) (words_of input.now)) }
 {
     let mut state = State::fresh(image).unwrap_or_else(|refused| refused.state);
+    // By places: over the words' bytes it would be no plainer, since what number they are `word_at` says.
     for k in 0..tracer::words(input) {
         let cycled = cycle_line(image, state, tracer::word_at(input, k));
         state = cycled.state;

@@ -1,5 +1,5 @@
 -- `capi::channel_bench_fresh` meets its contract. Assumes nothing.
-use mathlib.Core.Path.{ap, ◌∙◌}
+use mathlib.Core.Path.{ap}
 use Rattle.state.specs.Told.{Told}
 use Rattle.capi.specs.CallsLaws.{fresh_written, fresh_short}
 use Rattle.capi.proofs.channel_bench_fresh.Goals as goal

@@ -1,5 +1,5 @@
 -- `capi::channel_bench_station` meets its contract. Assumes nothing.
-use Rattle.std.proofs.Common.{◌≡◌, Bool, ℕ, ℤ, sym, ap, ◌∙◌, arith}
+use Rattle.std.proofs.Common.{◌≡◌, ℤ, sym, ap, ◌∙◌, arith}
 use Rattle.std.proofs.Math.Facts.{to_z-of_z}
 use Rattle.std.specs.Bool.{then_some}
 use Rattle.bench.specs.ByValue.{BenchedTold, benched_told, station_benched}

@@ -1,3 +1,4 @@
+-- What the loop of `text::put_all` holds: the items before this one stand behind one another. Assumes nothing.
 use mathlib.Core.List.{flat_map}
 use Prim.Native.Nat.{◌≤◌}
 use lib.ListN.{length, take}

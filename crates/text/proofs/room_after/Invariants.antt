@@ -1,3 +1,4 @@
+-- What the loop of `text::room_after` holds: what the items before this one leave, and that each takes no more than the longest. Assumes nothing.
 use mathlib.Core.List.{flat_map}
 use mathlib.Core.Path.{◌≡◌}
 use Prim.Native.Nat.{◌+◌, ◌*◌, ◌-◌, ◌≤◌}

@@ -1,6 +1,4 @@
 -- `trace::closing_line` meets its contract. Assumes nothing.
-use mathlib.Core.Path.{◌∙◌}
-use native.Mathlib.Omega.{arith}
 use Rattle.text.specs.Lines.{closing_text}
 use Rattle.text.specs.Write.{Begins}
 use Rattle.text.specs.WriteLaws.{written_begins}
@@ -8,9 +6,6 @@ use Rattle.tracer.specs.Trace.{firings_of}
 use Rattle.trace.proofs.closing_line.Goals.{After-written-length}
 use Rattle.tracer.specs.DoneLaws.{closing_made}
 use Rattle.trace.proofs.closing_line.Goals as goal
-
-pub written-length-requires : goal.written-length-requires
-written-length-requires c = c.closing_line.ensures.number_value (omega arith) ∙ c.requires
 
 begins : (c : After-written-length) → Begins c.closing_line.new.out c.written-length.result (closing_text (firings_of c.args.image.now c.args.state))
 begins c = written_begins (closing_made (rw c.written-length.ensures at c.closing_line.ensures.closing_done))

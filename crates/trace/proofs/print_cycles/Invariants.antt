@@ -1,3 +1,4 @@
+-- What the loop of `trace::print_cycles` holds: the state is that after the first k words. Assumes nothing.
 use mathlib.Core.Path.{◌≡◌}
 use Prim.Native.Nat.{◌≤◌}
 use lib.ListN.{length, take}

@@ -1,14 +1,10 @@
 -- `trace::refusal_line` meets its contract. Assumes nothing.
-use native.Mathlib.Omega.{arith}
 use Rattle.refusal.specs.Number.{number}
 use Rattle.text.specs.Lines.{refused_text}
 use Rattle.text.specs.Write.{Begins}
 use Rattle.text.specs.WriteLaws.{written_begins}
 use Rattle.trace.proofs.refusal_line.Goals.{After-written-length}
 use Rattle.trace.proofs.refusal_line.Goals as goal
-
-pub written-length-requires : goal.written-length-requires
-written-length-requires c = c.refused_line.ensures.number_value (omega arith)
 
 begins : (c : After-written-length) → Begins c.refused_line.new.out c.written-length.result (refused_text (number c.args.refusal))
 begins c =

@@ -64,10 +64,3 @@ returns-in-Err-cycle_line-clause-line_done c =
     let a = c.args in
     let k = (goal.at.returns-in-Err-cycle_line-clause-line_done c).After-readings-row in
     line_long a.image.now a.state a.word a.out.now (step-number c.in-Ok.ensures refl refl) (shown k) c.in-Err-cycle_line.ensures.write_done
-
-pub returns-in-Err-cycle_line-clause-number_value : goal.returns-in-Err-cycle_line-clause-number_value
-returns-in-Err-cycle_line-clause-number_value c =
-    let p = number_positive c.in-Err-cycle_line.refusal in
-    λ h.
-    let z = c.in-Err-cycle_line.ensures.number_value (omega (arith, h, few (goal.at.returns-in-Err-cycle_line-clause-number_value c).After-readings-row)) in
-    absurd (omega (arith, z, p))
