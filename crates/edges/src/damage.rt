@@ -100,13 +100,15 @@ impl Plan {
                 node.value = value;
             }),
             Token::InStation => {
-                change(&mut state.stations, self.roll_station(dice), |station| {
+                if let Some(station) = state.stations.get_mut(self.roll_station(dice)) {
                     set(&mut station.tokens, i, value);
-                });
+                }
             }
-            Token::InQueue => change(&mut state.queues, self.roll_channel(dice), |queue| {
-                set(&mut queue.tokens, i, value);
-            }),
+            Token::InQueue => {
+                if let Some(queue) = state.queues.get_mut(self.roll_channel(dice)) {
+                    set(&mut queue.tokens, i, value);
+                }
+            }
         }
     }
 

@@ -2,7 +2,7 @@
 
 use crate::cause::Cause;
 
-#[derive(Clone, Copy, PartialEq, Eq)]
+#[derive(Clone, Copy)]
 pub(crate) enum Kind {
     Count = 1,
     Hold = 2,

@@ -71,11 +71,9 @@ impl Pattern {
         }
     }
 
-    // The word of cycle t. The dice are thrown for each.
-    fn word(self, dice: &mut Dice, t: usize, nodes: usize) -> u64 {
-        let one = dice.roll_word();
-        let other = dice.roll_word();
-        let word = match self {
+    // The word of cycle t, from two that are thrown; it may stall nodes that are not there.
+    fn pick(self, one: u64, other: u64, t: usize, nodes: usize) -> u64 {
+        match self {
             Pattern::Few => one & other,
             Pattern::Nobody => 0,
             Pattern::Bursts => early(u64::MAX, t, 10, 20),
@@ -84,8 +82,14 @@ impl Pattern {
             Pattern::AllButOne => !one_of(t / 3, nodes),
             Pattern::Now => early(one, t, 2, 6),
             Pattern::Many => one,
-        };
-        word & all(nodes)
+        }
+    }
+
+    // The word of cycle t. The dice are thrown for each.
+    fn word(self, dice: &mut Dice, t: usize, nodes: usize) -> u64 {
+        let one = dice.roll_word();
+        let other = dice.roll_word();
+        self.pick(one, other, t, nodes) & all(nodes)
     }
 
     // The words of a trial.

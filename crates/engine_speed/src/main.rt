@@ -79,7 +79,8 @@ impl Checksum {
     }
 }
 
-// No `sum`: it asks that the sum fits, and behind the reference nothing is known of how many nodes there are.
+// No `sum`: it asks that the sum fits, which did not prove, since behind a reference nothing is known of
+// how many nodes there are.
 fn firings(state: &State) -> u64 {
     let firings = state.nodes.iter().map(|node| u64::from(node.firings));
     firings.fold(0, u64::saturating_add)
