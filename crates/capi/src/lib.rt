@@ -28,20 +28,14 @@ use text::Text;
 fn number(answer: Result<(), Refusal>) -> u8
     ensures { result ≡ number_of answer }
 {
-    match answer {
-        Ok(()) => 0,
-        Err(refusal) => refusal.number(),
-    }
+    stop_number(answer.err())
 }
 
 // What refused a call or stopped a run, if anything did, as C is told it.
 fn stop_number(stopped: Option<Refusal>) -> u8
     ensures { result ≡ number_if stopped }
 {
-    match stopped {
-        Some(refusal) => refusal.number(),
-        None => 0,
-    }
+    stopped.map_or(0, Refusal::number)
 }
 
 // A state, and why the call was refused that returned it: C is handed a state by a refused call too.

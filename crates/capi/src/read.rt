@@ -18,17 +18,10 @@ pub(crate) const STATE: usize = 10692;
 // How many a station record has.
 const RECORD: usize = 9;
 
-// A number of four bytes, low byte first.
-fn word_in(bytes: &[u8], at: usize) -> u32
-    ensures { result ≡ four_bytes bytes.now at }
-{
-    netlist::four_bytes(bytes, at) as u32
-}
-
 fn token_in(bytes: &[u8], at: usize) -> i32
     ensures { result ≡ token_in bytes.now at }
 {
-    netlist::as_signed(word_in(bytes, at))
+    netlist::as_signed(netlist::four_bytes(bytes, at))
 }
 
 fn node_in(bytes: &[u8], at: usize) -> Node
@@ -37,7 +30,7 @@ fn node_in(bytes: &[u8], at: usize) -> Node
 {
     Node {
         value: token_in(bytes, at),
-        firings: word_in(bytes, at + 4),
+        firings: netlist::four_bytes(bytes, at + 4),
     }
 }
 
@@ -63,7 +56,8 @@ fn queue_in(bytes: &[u8], at: usize) -> Queue
     }
 }
 
-// The parts of a state.
+// The parts of a state. Four functions and no generic one: each is one call of `from_fn`, and its contract
+// names the place and the size of its part.
 fn nodes_in(bytes: &[u8]) -> [Node; 64]
     requires { 516 ≤ length bytes.now }
     ensures { result ≡ table (λ n. node_in bytes.now (4 + 8 * n)) 64 }
@@ -110,7 +104,7 @@ pub(crate) fn state_in(bytes: &[u8]) -> State
         return no_state();
     }
     State {
-        cycles: word_in(bytes, 0),
+        cycles: netlist::four_bytes(bytes, 0),
         nodes: nodes_in(bytes),
         pending: marks_in(bytes),
         stations: stations_in(bytes),
@@ -156,7 +150,7 @@ pub(crate) fn record_count(bytes: &[u8]) -> usize
     (bytes.len() + 8) / RECORD
 }
 
-// A row of so many records, in the first places of eight; of one that is too long, none are read.
+// A row of so many records, in the first places of eight; of one that is too long, the first eight.
 pub(crate) fn row_in(bytes: &[u8], count: usize) -> Row
     ensures { count ≤ 8 → take count result.stations ≡ table (row_record bytes.now) count }
 {

@@ -25,8 +25,8 @@ fn stalls(word: u64, n: usize) -> bool
     (word >> n) % 2 == 1
 }
 
-// A node that fires, from what its ports bring. That no node has fired 1,000,000 times is asked by its
-// number here, at `cycles` and of a run's words: a definition of it would have to be opened in each proof.
+// A node that fires, from what its ports bring. At most 1,000,000 is asked here, at `cycles` and of a run's
+// words: of firings, of a sum and of a cycle count. That is no one value, so no struct has it.
 fn fired(node: Node, kind: Kind, a: i32, b: i32, c: i32) -> Node
     requires { node.firings < 1000000 }
     ensures { result ≡ record { value = next_value (code kind) node.value a b c; firings = suc node.firings } }
@@ -41,6 +41,7 @@ fn fired(node: Node, kind: Kind, a: i32, b: i32, c: i32) -> Node
 fn wires_of(netlist: Netlist) -> [Channel; 96]
     ensures { result ≡ wires_below netlist.entry.image.now (channels netlist.entry.image.now) }
 {
+    // By hand: only this array wants a channel of zeros, and its definition names them.
     let none = Channel {
         from: 0,
         to: 0,
@@ -58,8 +59,9 @@ fn wires_of(netlist: Netlist) -> [Channel; 96]
 // The state after the cycles of these words. Each cycle is worked from the state at its start, `old`,
 // and written to `s`. It is one function because a state that is handed to another is copied, which
 // costs a tenth of the cycle each time (docs/PERFORMANCE.md). For the same reason the fields of a channel
-// are taken out in both loops over the channels. Netlist and state are no struct that says that they fit:
-// `fitted` of the engine would answer a state of 10 kB in a `Result`, beside its caller's own.
+// are taken out in both loops over the channels, and once more in `show`. Netlist and state are no struct that
+// says that they fit: `fitted` of the engine would answer a state of 13 kB in a `Result`, beside its caller's own.
+// What is decoded of the netlist stands beside the state's arrays: it is the same in every cycle.
 //
 // The loops go by index: each turn reads and writes several arrays, at places that it works out. Starved,
 // blocked and firing nodes have arrays of their own, since a channel marks one node as starved and another

@@ -58,7 +58,8 @@ impl State {
         state
     }
 
-    // An image's fresh state; if the judge refuses the image, a state of zeros is handed back.
+    // An image's fresh state; if the judge refuses the image, a state of zeros is handed back. A `match`, since
+    // each arm makes a state of its own: `map_err` and `?` would be no shorter.
     // Where this is inlined LLVM takes the states apart into single numbers, and builds for minutes.
     #[inline(never)]
     pub fn fresh(image: &[u8]) -> Result<State, Refused>

@@ -1,4 +1,5 @@
-// The passes of number 21, each over all nodes or all channels.
+// The passes of number 21, each over all nodes or all channels. Netlist and state are two parameters: that they
+// fit is what comes of these tests, so no struct holds both before.
 ghost use Rattle.std.specs.Prelude.{◌≡◌, ◌+◌, ◌<◌, ◌≤◌, length, eqb};
 ghost use Rattle.laws.specs.Lists.{zero_from};
 ghost use Rattle.netlist.specs.Image.{channels};
@@ -9,7 +10,8 @@ use netlist::Netlist;
 use relay::{Row, Station};
 use shell::Queue;
 
-// Whether a node that is not there is 0 throughout.
+// Whether a node that is not there is 0 throughout. Place by place, here and in the next three: the definition
+// of number 21 names the places, and a derived `==` would want a law for each type that takes it to them.
 #[tactic(auto, using(laws::specs::SignedLaws::zero_bits), unfolding(crate::specs::FitsPasses::empty_node))]
 fn empty_node(node: Node) -> bool
     ensures { result ≡ empty_node node }

@@ -16,8 +16,8 @@ const LAST: u32 = 1000000;
 
 // What a cycle needs of an image: how many nodes there are, each one's kind, and the node that feeds
 // each port, three places a node, flat as the definition of ports has them. Kinds and feeders are arrays
-// of their own: with kinds and values in one struct a run took a tenth longer (docs/PERFORMANCE.md). The
-// nodes' values stand in 65 places: place 64 is no node's and stays 0, for ports that no channel feeds, so
+// of their own: the cycle engine shares what reads the one, and the law of ports speaks of the other. With kinds
+// and values in one struct a run took a tenth longer (docs/PERFORMANCE.md). The nodes' values stand in 65 places: place 64 is no node's and stays 0, for ports that no channel feeds, so
 // that a cycle reads all three ports of each node without a test.
 #[derive(Drop)]
 struct System {
@@ -63,7 +63,7 @@ impl System {
         self.kinds[n].next(values[n], a, b, c)
     }
 
-    // The values after a cycle. By index, since every node is worked from the same values.
+    // The values after a cycle. By number, as `next` asks for a node.
     #[tactic(auto, using(laws::specs::TableLaws::over_next), unfolding(crate::specs::System::values_after, laws::specs::Table::table_over, laws::specs::Table::table))]
     fn after(&self, values: &[i32; 65]) -> [i32; 65]
         ensures { result ≡ values_after self.now values.now }

@@ -91,7 +91,8 @@ fn digits(n: u64) -> usize
     n.checked_ilog10().unwrap_or(0) as usize + 1
 }
 
-// A value with its sign: the library's `io::decimal` is for numbers from 0 on.
+// A value with its sign: `io::decimal` is for numbers from 0 on, and the library's writers of signed numbers
+// speak of another definition of decimals.
 #[tactic(auto, using(crate::specs::PutLaws::put_steps, crate::specs::DecimalLaws::signed_minus, crate::specs::DecimalLaws::signed_plain))]
 fn put_signed(value: i32, out: &mut [u8], at: usize) -> usize
     requires { at + length (signed_text value) ≤ length out.old }

@@ -71,7 +71,7 @@ pub fn word_at(input: &[u8], k: usize) -> u64
     u64::from_le_bytes(whole_words(input).get(k).copied().unwrap_or([0; 8]))
 }
 
-// Number 12: whether some word sets a bit at or above N.
+// Number 12: whether some word sets a bit at or above N. By number: the definitions name word k.
 fn any_above(input: &[u8]) -> bool
     ensures { result ≡ any_above input.now }
 {
@@ -135,7 +135,7 @@ pub fn cycle_line(image: &[u8], state: State, word: u64, out: &mut [u8]) -> Resu
 {
     let mut letters = [0u8; 96];
     let mut values = [0i32; 96];
-    // And so it does where a state is handed on by `?`.
+    // And so it does where a state is handed on by `?`, here and below.
     let after = match engine::step(image, state, word, &mut letters, &mut values) {
         Ok(after) => after,
         Err(refused) => return Err(refused),

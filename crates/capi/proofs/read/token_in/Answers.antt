@@ -6,4 +6,4 @@ use Rattle.capi.proofs.read.token_in.Goals as goal
 
 pub returns : goal.returns
 unfolding token_in
-returns c = rw (to_z-of_z (told c.as_signed.result c.as_signed.type_inv), c.as_signed.ensures, c.word_in.ensures)
+returns c = rw (to_z-of_z (told c.as_signed.result c.as_signed.type_inv), c.as_signed.ensures, c.four_bytes.ensures)
