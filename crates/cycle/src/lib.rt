@@ -17,7 +17,7 @@ use pearl::Kind;
 use relay::Reading;
 use state::{Node, State};
 
-// Bit n of a stall word.
+// Bit n of a stall word. A node's number is below 64 by what a netlist promises; here a shift asks for it.
 fn stalls(word: u64, n: usize) -> bool
     requires { n < 64 }
     ensures { result ≡ stalled word n }

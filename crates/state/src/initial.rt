@@ -60,8 +60,6 @@ impl State {
 
     // An image's fresh state; if the judge refuses the image, a state of zeros is handed back. A `match`, since
     // each arm makes a state of its own: `map_err` and `?` would be no shorter.
-    // Where this is inlined LLVM takes the states apart into single numbers, and builds for minutes.
-    #[inline(never)]
     pub fn fresh(image: &[u8]) -> Result<State, Refused>
         ensures { FreshDone image.now (told result) }
     {

@@ -134,7 +134,7 @@ fn allowed<'a>(image: &'a [u8], cycle: u32, room: usize) -> Result<Netlist<'a>, 
 
 // The values of all N nodes in a cycle, written to the first N places of `values`. A refused run
 // writes nothing: one on an image that the judge refuses, of a cycle over 1,000,000, or with fewer
-// than N places.
+// than N places. The three parameters are what C hands over.
 #[tactic(auto, using(crate::specs::AnswerLaws::written_none, refusal::specs::NumberLaws::number_positive))]
 pub fn strict(image: &[u8], cycle: u32, values: &mut [i32]) -> Result<(), Refusal>
     ensures value { number_of result ≡ strict_number image.now cycle (length values.old) }
