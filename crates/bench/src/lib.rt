@@ -1,7 +1,7 @@
 // Benches for relay stations on their own: one station, or a row of up to eight, is lent and changed
 // in place by one cycle. Link and stop are two parameters throughout, as C lends them: a struct of them would
-// mean two things, since a station's stop is on the link that leaves it, a queue's on the one that arrives. One station and a row are
-// apart: a row has a length, and is refused for it, and its copy has eight places.
+// mean two things, since a station's stop is on the link that leaves it, a queue's on the one that arrives.
+// One station and a row are apart: a row has a length, and is refused for it, and its copy has eight places.
 #![tactic(auto)]
 
 pub mod steps;

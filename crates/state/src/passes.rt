@@ -1,5 +1,5 @@
-// The passes of number 21, each over all nodes or all channels. Netlist and state are two parameters: that they
-// fit is what comes of these tests, so no struct holds both before.
+// The passes of number 21, each over all nodes or all channels. Netlist and state are two parameters: that
+// they fit is what comes of these tests, so no struct holds both before.
 ghost use Rattle.std.specs.Prelude.{◌≡◌, ◌+◌, ◌<◌, ◌≤◌, length, eqb};
 ghost use Rattle.laws.specs.Lists.{zero_from};
 ghost use Rattle.netlist.specs.Image.{channels};

@@ -16,9 +16,10 @@ const LAST: u32 = 1000000;
 
 // What a cycle needs of an image: how many nodes there are, each one's kind, and the node that feeds
 // each port, three places a node, flat as the definition of ports has them. Kinds and feeders are arrays
-// of their own: the cycle engine shares what reads the one, and the law of ports speaks of the other. With kinds
-// and values in one struct a run took a tenth longer (docs/PERFORMANCE.md). The nodes' values stand in 65 places: place 64 is no node's and stays 0, for ports that no channel feeds, so
-// that a cycle reads all three ports of each node without a test.
+// of their own: the cycle engine shares what reads the one, and the law of ports speaks of the other. With
+// kinds and values in one struct a run took a tenth longer (docs/PERFORMANCE.md). The nodes' values stand in
+// 65 places: place 64 is no node's and stays 0, for ports that no channel feeds, so that a cycle reads all
+// three ports of each node without a test.
 #[derive(Drop)]
 struct System {
     nodes: usize,
