@@ -63,6 +63,7 @@ fn written(answer: Result<usize, Refusal>) -> usize
     answer.unwrap_or(0)
 }
 
+// A refusal's line. It and the next two promise each its own text: so what it begins with is no field of `Line`.
 fn refusal_line(refusal: Refusal) -> Line
     ensures { Begins result.bytes result.length (refused_text (number refusal)) }
 {
@@ -85,7 +86,7 @@ fn cycle_line(image: &[u8], state: State, word: u64) -> Cycled
             },
             state: lined.state,
         },
-        // It is not refused.
+        // It is not refused. No `unwrap_or_else`: it would make a `Lined` of the refusal, to be taken apart again.
         Err(refused) => Cycled {
             line: Line { bytes, length: 0 },
             state: refused.state,
