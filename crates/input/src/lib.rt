@@ -83,6 +83,9 @@ pub fn read_to_end<R: io::Read>(reader: &mut R, buffer: &mut [u8]) -> Result<Inp
         kept,
         length: rest.length.saturating_add(kept as u64),
     };
-    copied.map_err(|error| Unread { before: read, error })?;
+    copied.map_err(|error| Unread {
+        before: read,
+        error,
+    })?;
     Ok(read)
 }
