@@ -1,12 +1,12 @@
 -- The fresh state: what its nodes and channels are; and how it is filled, node by node and channel by channel. Assumes nothing.
-use Rattle.std.specs.Prelude.{List, [], ◌∷◌, ◌≡◌, ℕ, zero, suc, ◌*◌, ◌/◌, ◌%◌, ◌<◌, ◌++◌, drop, ℤ, get_or, set, replicate}
+use Rattle.std.specs.Prelude.{List, [], ◌∷◌, ◌≡◌, ℕ, zero, suc, ◌*◌, ◌/◌, ◌%◌, ◌<◌, ℤ, get_or, set, replicate}
 use Rattle.std.proofs.Math.Path.{refl, ap}
-use Rattle.std.proofs.Common.{arith, ne_eqb, ◌∙◌}
+use Rattle.std.proofs.Common.{arith, ne_eqb}
 use Rattle.std.proofs.lemmas.List.{length-replicate}
 use Rattle.laws.specs.Lists.{padded}
 use Rattle.laws.specs.ListsLaws.{replicate_rest}
-use Rattle.laws.specs.Table.{table, table_over}
-use Rattle.laws.specs.TableLaws.{padded-table, padded_same, over_padded, table_own, table_same}
+use Rattle.laws.specs.Table.{table}
+use Rattle.laws.specs.TableLaws.{padded-table, padded_same}
 use Rattle.netlist.specs.Image.{nodes, channels, parameter, from, stations}
 use Rattle.netlist.specs.Accepted.{Accepted}
 use Rattle.netlist.specs.Judge.{judge}
@@ -73,7 +73,7 @@ module _ (img : List ℕ) where
   unfolding zeros filled padded table
   filled_none = refl
 
-  -- one more node
+  -- one more node, and one more mark
   pub filled_node :
       (n c : ℕ) → n < 64 → (s : State) → s ≡ filled img n c → (v : ℤ) → v ≡ parameter img n
       → record {
@@ -87,24 +87,12 @@ module _ (img : List ℕ) where
   unfolding filled fresh_node
   filled_node n c h s e v q = rw (e, q, padded-table (fresh_node img) n 64 no_node h)
 
-  -- all of c marks
-  pub filled_marks :
-      (n c : ℕ) (s : State) → s ≡ filled img n 0 → (marks : List ℕ) → marks ≡ replicate c 1 ++ drop c (replicate 96 0)
-      → record { cycles = s.cycles; nodes = s.nodes; pending = marks; stations = s.stations; queues = s.queues } ≡ filled img n c
-  unfolding filled padded table table_over
-  filled_marks n c s e marks m =
-      let one : ℕ → ℕ = λ k. 1 in
-      let rest : List ℕ = replicate 96 0 in
-      let ones : replicate {A = ℕ} c 1 ≡ table one c =
-      table_own (replicate {A = ℕ} c 1) 1 ∙ rw length-replicate (table_same (λ i. get_or (replicate {A = ℕ} c 1) i 1) one c (λ i h. replicate_rest c i 1)) in
-      let over : table one c ++ drop c rest ≡ padded 96 0 (table one c) = over_padded one c 96 0 [] (omega arith) in
-      rw e (ap (λ (l : List ℕ). record {
-        cycles = 0;
-        nodes = padded 64 no_node (table (fresh_node img) n);
-        pending = l;
-        stations = replicate 768 (station_of []);
-        queues = replicate 96 (queue_of []);
-      }) (m ∙ ap (λ (l : List ℕ). l ++ drop c rest) ones ∙ over))
+  pub filled_mark :
+      (n c : ℕ) → c < 96 → (s : State) → s ≡ filled img n c
+      → record { cycles = s.cycles; nodes = s.nodes; pending = set s.pending c 1; stations = s.stations; queues = s.queues }
+      ≡ filled img n (suc c)
+  unfolding filled
+  filled_mark n c h s e = rw (e, padded-table {A = ℕ} (λ k. 1) c 96 0 h)
 
   -- with all of them it is the fresh state
   pub filled_all : Accepted img → filled img (nodes img) (channels img) ≡ fresh_state img

@@ -42,7 +42,7 @@ impl State {
         ensures { result ≡ fresh_state netlist.entry.image.now }
     {
         let nodes = netlist.nodes();
-        let channels = usize::from(netlist.channels());
+        let channels = netlist.channels();
         let mut state = State::zeros();
         // By index, since the netlist is asked for each node by its number.
         for n in 0..nodes {
@@ -52,9 +52,10 @@ impl State {
                 firings: 0,
             };
         }
-        let mut pending = [0; 96];
-        pending[..channels].fill(1);
-        state.pending = pending;
+        // No `fill`: with it a run of the engine took a tenth longer.
+        for c in 0..channels {
+            state.pending[c as usize] = 1;
+        }
         state
     }
 

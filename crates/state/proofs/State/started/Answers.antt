@@ -1,6 +1,4 @@
--- `state::State::started` meets its contract. The invariant: the first n nodes are filled in. Assumes nothing.
-use Rattle.std.specs.Prelude.{replicate, drop, ◌++◌}
-use Rattle.std.proofs.lemmas.List.{length-take-le}
+-- `state::State::started` meets its contract. The invariants: the first n nodes are filled in, and then the first c marks. Assumes nothing.
 use mathlib.Core.Path.{◌≡◌, ap, ◌∙◌}
 use Prim.Native.Nat.{◌<◌}
 use native.Mathlib.Numerals.{add-one}
@@ -13,7 +11,7 @@ use Rattle.netlist.specs.declared.Core.{Core}
 use Rattle.netlist.specs.Image.{nodes, channels}
 use Rattle.netlist.specs.Readers.{core_at}
 use Rattle.netlist.specs.AcceptedLaws.{accepted}
-use Rattle.state.specs.FreshLaws.{filled_none, filled_node, filled_marks, filled_all}
+use Rattle.state.specs.FreshLaws.{filled_none, filled_node, filled_mark, filled_all}
 use Rattle.state.proofs.State.started.Goals as goal
 
 pub loop-n-init : goal.loop-n-init
@@ -31,10 +29,14 @@ loop-n-preserved c =
           (filled_node img c.loop-n.n 0 there c.loop-n.state c.loop-n.invariant.1 r.result.parameter (ap (λ (x : Core). x.parameter) r.ensures)),
     )
 
+pub loop-c-preserved : goal.loop-c-preserved
+loop-c-preserved c =
+    let img = c.args.netlist.image.now in
+    let there : c.loop-c.c < 96 = omega (arith, c.channels-channels.ensures.few) in
+    (omega arith, rw add-one (filled_mark img (nodes img) c.loop-c.c there c.loop-c.state c.loop-c.invariant.1))
+
 pub returns : goal.returns
 returns c =
     let img = c.args.netlist.image.now in
-    let all : c.loop-n.n ≡ nodes img = omega (arith, c.nodes-nodes.ensures.value) in
-    let marks : c.from-channels.result ≡ channels img = search rules in
-    let ones : c.fill.new.self ≡ replicate c.from-channels.result 1 = search (rules, length-take-le) in
-    filled_marks img c.loop-n.n c.from-channels.result c.loop-n.state c.loop-n.invariant.1 _ (ap (λ l. l ++ drop c.from-channels.result (replicate 96 0)) ones) ∙ rw (all, marks) (filled_all img (accepted img c.args.netlist.accepted))
+    let e : c.loop-c.c ≡ channels img = omega (arith, c.channels-channels.ensures.value) in
+    (rw e at c.loop-c.invariant.1) ∙ filled_all img (accepted img c.args.netlist.accepted)
