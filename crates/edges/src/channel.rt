@@ -17,7 +17,8 @@ pub(crate) enum Letter {
     Idle = b'I' as isize,
 }
 
-// What the arriving link shows: a letter, and the token's value or 0.
+// What the arriving link shows: a letter, and the token's value or 0. No `Option`: the two are compared with
+// the C interface's two arrays, place by place.
 #[derive(Clone, Copy)]
 pub(crate) struct Reading {
     pub letter: Letter,

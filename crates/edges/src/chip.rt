@@ -20,7 +20,8 @@ pub(crate) struct Node {
     pub firings: u32,
     // whether it may fire in this cycle
     free: bool,
-    // the channel that feeds each port
+    // the channel that feeds each port; 0, and no `Option`, at a port that the kind does not have: nothing comes
+    // of what is read there
     feeds: [usize; 3],
 }
 

@@ -71,7 +71,8 @@ impl Plan {
     }
 }
 
-// ---- states
+// ---- states. No closures, in the three below: one throw picks the field, and the fields of one enum share the
+// throws that follow.
 
 // Where a token is changed; a node shows one.
 #[derive(Clone, Copy)]

@@ -1,5 +1,7 @@
 // The dice that every test here is thrown with: one seed always gives the same throws.
 
+use crate::plan::byte;
+
 // No allocator stands in it, though some that throw take one beside it: most of them make nothing.
 #[derive(Clone, Copy)]
 pub(crate) struct Dice {
@@ -30,7 +32,7 @@ impl Dice {
 
     // The same for up to 256 sides.
     pub(crate) fn roll_byte(&mut self, sides: usize) -> u8 {
-        (self.roll(sides) % 256) as u8
+        byte(self.roll(sides))
     }
 
     // 64 bits, the lowest first.

@@ -4,6 +4,7 @@ use crate::dice::Dice;
 use crate::kind::Kind;
 use crate::plan::{Core, Plan, Wire, byte};
 use std::alloc::{AllocError, Global};
+use std::fmt;
 
 const MOST_CHANNELS: usize = 96;
 
@@ -20,18 +21,20 @@ pub(crate) enum Shape {
     Large,
 }
 
-impl Shape {
-    pub(crate) fn label(self) -> &'static str {
-        match self {
+impl fmt::Display for Shape {
+    fn fmt<W: fmt::Write>(&self, f: &mut fmt::Formatter<W>) -> fmt::Result {
+        f.write_str(match self {
             Shape::Rings => "rings",
             Shape::Reconvergent => "reconvergent paths",
             Shape::SelfLoops => "self loops",
             Shape::FanOut => "fan-out",
             Shape::Mixed => "mixed",
             Shape::Large => "large",
-        }
+        })
     }
+}
 
+impl Shape {
     // The seed of a group's dice.
     pub(crate) fn seed(self) -> u64 {
         self as u64
@@ -209,8 +212,7 @@ pub(crate) fn roll_plan(alloc: Global, dice: &mut Dice, shape: Shape) -> Result<
     let shift = dice.roll(MOST_CHANNELS);
     let cores = shape.roll_cores(alloc, dice, nodes)?;
     let mut wires = shape.roll_wires(alloc, dice, &cores)?;
-    if !wires.is_empty() {
-        let turn = shift % wires.len();
+    if let Some(turn) = shift.checked_rem(wires.len()) {
         wires.rotate_right(turn);
     }
     Ok(Plan { cores, wires })

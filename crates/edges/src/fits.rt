@@ -1,4 +1,5 @@
-// The second simulator's own number 21: whether a state fits a netlist.
+// The second simulator's own number 21: whether a state fits a netlist. Plan and state are two parameters: that
+// they fit is what comes of these tests, so no struct holds both before.
 
 use crate::chip::LAST;
 use crate::library;
@@ -49,6 +50,7 @@ fn channel_fits(state: &State, held: &Held, wire: Wire) -> bool {
     held.is_some_and(|tokens| tokens.saturating_add(used) == sent.saturating_add(1))
 }
 
+// By number: what a state holds on a channel stands in arrays of its own, as C has it.
 fn channels_fit(plan: &Plan, state: &State) -> bool {
     (0..state.pending.len()).all(|c| {
         let held = library::held_on(state, c);

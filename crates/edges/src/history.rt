@@ -3,6 +3,7 @@
 
 use crate::chip::{Chip, Node};
 use std::alloc::{AllocError, Global};
+use std::array;
 
 #[derive(Drop)]
 pub(crate) struct History {
@@ -16,10 +17,8 @@ fn at(row: &[i32], n: usize) -> i32 {
 // The values of the cycle after one of these.
 fn next_row(alloc: Global, chip: &Chip, row: &[i32]) -> Result<Vec<i32>, AllocError> {
     let next = |(n, node): (usize, &Node)| {
-        let a = at(row, chip.source(node, 0));
-        let b = at(row, chip.source(node, 1));
-        let c = at(row, chip.source(node, 2));
-        node.kind.next(at(row, n), [a, b, c])
+        let brought = array::from_fn(|port| at(row, chip.source(node, port)));
+        node.kind.next(at(row, n), brought)
     };
     chip.nodes.iter().enumerate().map(next).collect(alloc)
 }

@@ -24,27 +24,20 @@ impl Causes {
     }
 }
 
-// How often each port of each node is fed.
-#[derive(Clone, Copy)]
-struct Feeders {
-    ports: [[u8; 3]; 64],
-}
-
-impl Feeders {
-    fn of(plan: &Plan) -> Self {
+impl Plan {
+    // How often each port of each node is fed.
+    fn feeders(&self) -> [[u8; 3]; 64] {
         let mut ports = [[0u8; 3]; 64];
-        for wire in plan.wires.iter() {
+        for wire in self.wires.iter() {
             change(&mut ports, usize::from(wire.to), |node| {
                 change(node, usize::from(wire.port), |times| {
                     *times = times.saturating_add(1);
                 });
             });
         }
-        Feeders { ports }
+        ports
     }
-}
 
-impl Plan {
     fn inputs_of(&self, node: u8) -> usize {
         self.cores
             .get(usize::from(node))
@@ -63,7 +56,7 @@ impl Plan {
             Cause::Port,
         );
         causes.note(8 < wire.stations, Cause::Stations);
-        causes.note(wire.depth < 1 || 8 < wire.depth, Cause::Depth);
+        causes.note(!(1..=8).contains(&wire.depth), Cause::Depth);
     }
 
     fn judge_wires(&self, causes: &mut Causes) {
@@ -76,8 +69,7 @@ impl Plan {
     }
 
     fn judge_cores(&self, causes: &mut Causes) {
-        let feeders = Feeders::of(self);
-        for (core, ports) in self.cores.iter().zip(feeders.ports.iter()) {
+        for (core, ports) in self.cores.iter().zip(self.feeders().iter()) {
             causes.note(Kind::try_from(core.kind).is_err(), Cause::Kind);
             for times in ports.iter().take(core.inputs()) {
                 causes.note(1 < *times, Cause::FedTwice);

@@ -1,5 +1,7 @@
 // All that is called of the crates under test, and their types that are compared. What they answer is
-// brought into the forms of this program here.
+// brought into the forms of this program here. A station and a queue are two types there, each an array and a
+// count, by the project's rules: so what reads, writes or compares them is written for each, and takes the count
+// beside the tokens.
 
 use crate::places::set;
 pub(crate) use engine::Ran;
@@ -15,7 +17,7 @@ pub(crate) const UNTOUCHED: u8 = b'.';
 
 // ---- a state by channels
 
-// What a state holds on one channel.
+// What a state holds on one channel. A mark is a number, as in a state: a changed state may have any.
 #[derive(Clone, Copy)]
 pub(crate) struct Held {
     pub pending: u8,

@@ -63,10 +63,9 @@ fn group(rt: &impl Print, tester: &mut Tester, shape: Shape, netlists: u64) -> i
         trial::at_random(tester, shape)?;
     }
     tester.report.print_first(rt)?;
-    let label = shape.label();
     let counts = tester.report.counts;
     print!(rt;
-        "{label}: {} netlists, {} steps, ",
+        "{shape}: {} netlists, {} steps, ",
         counts.netlists, counts.steps
     )?;
     print!(rt; "{} runs, {} refusals, ", counts.runs, counts.refusals)?;

@@ -1,4 +1,6 @@
-// Two numbers that should be the same, and the first such pair of two states.
+// Two numbers that should be the same, and the first such pair of two states. What the engine has and what the
+// second simulator stand side by side throughout: a struct of the two would be taken apart wherever they are
+// compared.
 
 use crate::library::{Node, Queue, State, Station};
 use std::fmt;
@@ -47,7 +49,8 @@ impl fmt::Display for Field {
     }
 }
 
-// The field and the place in it, what the engine has there and what the second simulator.
+// The field and the place in it, what the engine has there and what the second simulator. Where a field has no
+// places the place is 0, and no `Option`: it is printed so.
 #[derive(Clone, Copy)]
 pub(crate) struct Mismatch {
     pub field: Field,
@@ -56,7 +59,8 @@ pub(crate) struct Mismatch {
     pub second: u64,
 }
 
-// A number that is compared, as it is shown: a value as its 32 bits.
+// A number that is compared, as it is shown: a value as its 32 bits. An `impl` for each type: one for all that go
+// into 64 bits would leave no room for signed ones.
 pub(crate) trait Shown: Copy {
     fn shown(self) -> u64;
 }

@@ -50,13 +50,15 @@ fn read_wires(alloc: Global, wires: &[u8], depths: &[u8]) -> Result<Vec<Wire>, A
     ends.iter().zip(depths.iter()).map(wire).collect(alloc)
 }
 
-// The last eight bits of a number.
+// The last eight bits of a number. No bare `as u8`, here and where a parameter is thrown: a cast may lose
+// nothing, so the remainder says what is left out.
 pub(crate) fn byte(number: usize) -> u8 {
     (number % 256) as u8
 }
 
 impl Core {
-    // How many inputs the node has; none, if its kind is no kind.
+    // How many inputs the node has; 0, and no `Option`, if its kind is no kind or, in the judge, if there is no
+    // such node: those causes are found by themselves, and their numbers are less.
     pub(crate) fn inputs(self) -> usize {
         Kind::try_from(self.kind).map_or(0, |kind| kind.inputs())
     }
@@ -70,7 +72,7 @@ impl Plan {
         };
         let n = usize::from(*nodes);
         let c = usize::from(*channels);
-        if n < 1 || 64 < n || 96 < c {
+        if !(1..=64).contains(&n) || 96 < c {
             return Err(Failure::Refused(Cause::Sizes));
         }
         if rest.len() != 5 * n + 5 * c {

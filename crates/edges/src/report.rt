@@ -62,7 +62,7 @@ pub(crate) struct Report {
     // the cycle count of the last call's state
     pub cycle: u32,
     first: Option<Difference>,
-    // how often each number was answered, over all groups
+    // how often each number was answered, over all groups; a refusal has no order, to be a key
     times: BTreeMap<u8, u64>,
 }
 

@@ -93,7 +93,7 @@ fn channel(alloc: Global, row: &[Station], coming: Coming) -> Result<Channel, Al
 
 // A cycle of a row, which is changed.
 pub(crate) fn cycle(alloc: Global, row: &mut [Station], coming: Coming) -> Result<Passed, Failure> {
-    if row.is_empty() || 8 < row.len() {
+    if !(1..=8).contains(&row.len()) {
         return Err(Failure::Refused(Cause::RowLength));
     }
     if row_held(row, row.len()).is_none() {

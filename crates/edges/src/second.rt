@@ -54,6 +54,7 @@ pub(crate) struct RunDone {
 }
 
 fn steps(mut chip: Chip, words: &[u64]) -> Result<RunDone, AllocError> {
+    // Counted by hand: with `enumerate` the count after the last word would be a case of its own.
     let mut steps: u32 = 0;
     let mut stopped = None;
     for word in words.iter() {

@@ -12,6 +12,7 @@ use crate::report::{Call, Report};
 use crate::{library, second};
 use std::alloc::{AllocError, Global};
 
+// What is printed to is lent beside it, to the few that print: with it, all that take a tester would be generic.
 #[derive(Drop)]
 pub(crate) struct Tester {
     pub alloc: Global,
@@ -68,7 +69,8 @@ impl Tester {
         Ok((engine.state, chip))
     }
 
-    // Every place that was lent: it has what the second simulator read, or what it had before.
+    // Every place that was lent: it has what the second simulator read, or what it had before. Two loops, and
+    // one more in `same_values`: one function for the three would take a closure that is as long as its loop.
     fn same_places(&mut self, engine: &Stepped, chip: Option<&Chip>) {
         for (c, letter) in engine.letters.iter().enumerate() {
             let second = reading(chip, c).map_or(UNTOUCHED, |reading| reading.letter as u8);

@@ -22,7 +22,8 @@ const PLENTIES: Rooms = Rooms {
     values: PLENTY,
 };
 
-// A netlist on trial, and its image.
+// A netlist on trial, and its image. The tester is lent beside it, since every call changes it, and so are the
+// fresh state and the words, which are there only if the netlist is not refused.
 #[derive(Drop)]
 struct Trial {
     plan: Plan,
@@ -117,7 +118,7 @@ impl Trial {
 // ---- runs
 
 impl Trial {
-    // The first words only.
+    // The first words only: how many is thrown, and both that throw it have the slice cut here.
     fn run_some(
         &self,
         tester: &mut Tester,

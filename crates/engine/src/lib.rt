@@ -37,8 +37,8 @@ pub fn sets_above(word: u64, n: u8) -> bool
 }
 
 // The netlist of an image that a state fits: the judge's refusals, and then 21. The state comes by value:
-// behind a reference nothing is known of the lengths of its arrays. Image and state are two parameters
-// here, as C hands them over, and that they fit is asked of no caller. The clauses `number` and `same` stand
+// behind a reference an array's length is known only where a part of it is taken. Image and state are two
+// parameters here, as C hands them over, and that they fit is asked of no caller. The clauses `number` and `same` stand
 // at each function that answers a netlist: they tie what it answers to the image that it was handed.
 pub fn fitted<'a>(image: &'a [u8], state: State) -> Result<Netlist<'a>, Refusal>
     ensures number { number_of result ≡ state_number image.entry.now state }

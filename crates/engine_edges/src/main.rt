@@ -25,6 +25,12 @@ impl<'a, P: Print> Bench<'a, P> {
     fn new(rt: &'a P, image: &'a [u8]) -> Self {
         Bench { rt, image }
     }
+
+    // The same image without its last byte.
+    fn short(self) -> Self {
+        let image = self.image.split_last().map_or(self.image, |(_, rest)| rest);
+        Bench::new(self.rt, image)
+    }
 }
 
 // ---- what a call answers
@@ -179,9 +185,8 @@ fn with_queue(state: State, count: u8) -> State {
     })
 }
 
-// The numbers of a step, alone and with the causes of those that come after; `short` is the same
-// image without its last byte.
-fn show_numbers<P: Print>(bench: Bench<'_, P>, short: Bench<'_, P>) -> io::Result<()> {
+// The numbers of a step, alone and with the causes of those that come after.
+fn show_numbers<P: Print>(bench: Bench<'_, P>) -> io::Result<()> {
     let fresh = bench.fresh();
     let last = at_cycle(fresh, 1000000);
     let unmarked = with(fresh, |state| state.pending[0] = 0);
@@ -199,7 +204,7 @@ fn show_numbers<P: Print>(bench: Bench<'_, P>, short: Bench<'_, P>) -> io::Resul
         with(last, |state| state.pending[0] = 0),
         32,
     )?;
-    short.step("a byte short, no mark", unmarked, 0)
+    bench.short().step("a byte short, no mark", unmarked, 0)
 }
 
 // Number 21: each condition in turn.
@@ -221,7 +226,7 @@ fn show_misfits<P: Print>(bench: Bench<'_, P>) -> io::Result<()> {
     bench.step("no mark", unmarked, 0)
 }
 
-fn show_runs<P: Print>(bench: Bench<'_, P>, short: Bench<'_, P>) -> io::Result<()> {
+fn show_runs<P: Print>(bench: Bench<'_, P>) -> io::Result<()> {
     let fresh = bench.fresh();
     let late = at_cycle(fresh, 999998);
     let unmarked = with(fresh, |state| state.pending[0] = 0);
@@ -229,16 +234,18 @@ fn show_runs<P: Print>(bench: Bench<'_, P>, short: Bench<'_, P>) -> io::Result<(
     bench.run("words 1 0 32 0 from cycle 999,998", late, &[1, 0, 32, 0])?;
     bench.run("words 1 0 from cycle 999,998", late, &[1, 0])?;
     bench.run("no words, no mark", unmarked, &[])?;
-    short.run("no words, a byte short, no mark", unmarked, &[])?;
+    bench
+        .short()
+        .run("no words, a byte short, no mark", unmarked, &[])?;
     Ok(())
 }
 
-fn show_figure4<P: Print>(bench: Bench<'_, P>, short: Bench<'_, P>) -> io::Result<()> {
+fn show_figure4<P: Print>(bench: Bench<'_, P>) -> io::Result<()> {
     bench.show_fresh("figure 4")?;
-    short.show_fresh("a byte short")?;
-    show_numbers(bench, short)?;
+    bench.short().show_fresh("a byte short")?;
+    show_numbers(bench)?;
     show_misfits(bench)?;
-    show_runs(bench, short)
+    show_runs(bench)
 }
 
 // A count node through all 1,000,000 cycles, in ten runs.
@@ -274,7 +281,7 @@ fn main(rt: HostRuntime) -> io::Result<()> {
     stations.trace(
         b"\x04\x0a\x00\x02\x07\x05\x0d\x09\x00\x00\x09\x0d\x03\x04\x0b\x0c\x00\x00\x0e\x00",
     )?;
-    show_figure4(figure4, Bench::new(&rt, &bytes[..46]))?;
+    show_figure4(figure4)?;
     show_limit(counting, &vec![in rt.alloc(); 0; 100000]?)?;
     show_64(&rt)
 }

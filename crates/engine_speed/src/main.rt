@@ -19,7 +19,8 @@ fn drawn(x: u64) -> u64 {
     b ^ (b << 17)
 }
 
-// A word of which the bits below N are set, up to 64 of them.
+// A word of which the bits below N are set, up to 64 of them. The program edges has this too: a crate for the
+// two would be longer.
 fn below(nodes: u8) -> u64 {
     let above = 1u64.checked_shl(u32::from(nodes)).unwrap_or(0);
     above.wrapping_sub(1)
@@ -107,6 +108,7 @@ fn main(rt: HostRuntime) -> io::Result<()> {
     let mut bytes = [0; 803];
     input::read_to_end(&mut rt.stdin(), &mut bytes).unwrap_or_else(|unread| unread.before);
     let image = &bytes[..802];
+    // Two tests and no enum: any other byte asks for both.
     let asked = bytes[802];
     let mut words = vec![in rt.alloc(); 0; CYCLES]?;
     if asked != b's' {

@@ -103,6 +103,7 @@ fn cut(image: &Vec<u8>, length: usize) -> Result<Vec<u8>, AllocError> {
     Ok(changed)
 }
 
+// The program judge prints this without a label: a crate for the two would be longer.
 fn judge(rt: &impl Print, label: &str, image: &[u8]) -> io::Result<()> {
     match netlist::judge(image) {
         Ok(()) => println!(rt; "{label}: accepted"),
