@@ -57,7 +57,7 @@ pub fn station_bench(s: &mut Station, link: Link, stop: bool) -> Result<Answer, 
 // records or over 8, then 21 as above: the row stays as it was.
 //
 // The row is copied out, worked by value, and stored back only if it was accepted. A row that is too
-// long is refused before: its number is 15 whatever it holds.
+// long is refused before it is copied: its number is 15 whatever it holds.
 pub fn row_bench(row: &mut [Station], link: Link, stop: bool) -> Result<Answer, Refusal>
     ensures { BenchDone row.old link stop (told result) row.new }
 {

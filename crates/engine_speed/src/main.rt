@@ -80,8 +80,8 @@ impl Checksum {
     }
 }
 
-// No `sum`: it asks that the sum fits, which did not prove, since behind a reference nothing is known of
-// how many nodes there are.
+// No `sum`: it asks that the sum fits, which did not prove: behind a reference it is not known how many nodes
+// there are where no part of them is taken.
 fn firings(state: &State) -> u64 {
     let firings = state.nodes.iter().map(|node| u64::from(node.firings));
     firings.fold(0, u64::saturating_add)

@@ -1,6 +1,6 @@
 // The judge's tests of an image whose length fits its sizes. Each is settled over all nodes or all channels
-// before the next is looked at. They take the bare image, `Netlist` is what comes of them, and ask for nothing:
-// what lies past its end is 0.
+// before the next is looked at. They take the bare image, `Netlist` is what comes of them, and all but
+// `feed_ports` ask for nothing: what lies past its end is 0.
 ghost use Rattle.std.specs.Prelude.{◌≡◌, IfOk};
 ghost use Rattle.laws.specs.Below.{any_below, sum_below};
 ghost use Rattle.laws.specs.Choice.{◌if◌else◌};

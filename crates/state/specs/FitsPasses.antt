@@ -40,8 +40,8 @@ module _ (img : List ℕ) (s : State) where
   channels_fit = all_below channel_fits (channels img)
 
   -- the second, over the places of their stations and queues; and the places of the channels, stations and queues that are not there
-  unfoldable pub channel_clear : ℕ → Bool
-  channel_clear c =
+  unfoldable pub contents_clear : ℕ → Bool
+  contents_clear c =
       all_below (λ j. clear (station_at s c j)) (stations img c)
       && all_below (λ j. ltb j (stations img c) || empty_station (station_at s c j)) 8
       && zero_from 8 (queue_at s c).count (queue_at s c).tokens
@@ -54,4 +54,4 @@ module _ (img : List ℕ) (s : State) where
 
   unfoldable pub channels_clear : Bool
   channels_clear =
-      all_below channel_clear (channels img) && all_below (mark_clear img s) 96 && all_below place_clear 768 && all_below queue_empty 96
+      all_below contents_clear (channels img) && all_below (mark_clear img s) 96 && all_below place_clear 768 && all_below queue_empty 96

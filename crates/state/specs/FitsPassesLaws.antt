@@ -19,7 +19,7 @@ use Rattle.shell.specs.declared.Queue.{Queue}
 use Rattle.state.specs.declared.State.{State}
 use Rattle.state.specs.State.{value_at, firings_at, mark_at, station_at, queue_at}
 use Rattle.state.specs.Fits.{cycles_fit, firings_fit, node_clear, stations_fit, mark_clear, balanced, fits}
-use Rattle.state.specs.FitsPasses.{empty_station, empty_queue, nodes_fit, channel_fits, channels_fit, channel_clear, place_clear, queue_empty, channels_clear}
+use Rattle.state.specs.FitsPasses.{empty_station, empty_queue, nodes_fit, channel_fits, channels_fit, contents_clear, place_clear, queue_empty, channels_clear}
 use Rattle.state.specs.Places.{Places, Cleared, StationClear, Within, Balanced, zero_from_lem, cycles_say, firings_say, counts_say, node_says, mark_says, balance_says, fits_iff}
 
 -- a station and a queue that are not there
@@ -66,9 +66,9 @@ module _ (img : List ℕ) (a : Accepted img) (s : State) where
       × ((j : ℕ) → j < 8 → stations img c ≤ j → EmptyStation (station_at s c j)))
       × Cleared 8 (queue_at s c).count (queue_at s c).tokens
 
-  channel_clear_says : (c : ℕ) → (channel_clear img s c ≡ true) ↔ ChannelClear c
-  unfolding channel_clear
-  channel_clear_says c =
+  contents_clear_says : (c : ℕ) → (contents_clear img s c ≡ true) ↔ ChannelClear c
+  unfolding contents_clear
+  contents_clear_says c =
       let used : ℕ → Bool = λ j. clear (station_at s c j) in
       let rest : ℕ → Bool = λ j. ltb j (stations img c) || empty_station (station_at s c j) in
       let q = queue_at s c in
@@ -87,13 +87,13 @@ module _ (img : List ℕ) (a : Accepted img) (s : State) where
   clear_says : (channels_clear img s ≡ true) ↔ ChannelsClear
   unfolding channels_clear place_clear queue_empty
   clear_says =
-      let used = all_below (channel_clear img s) (channels img) in
+      let used = all_below (contents_clear img s) (channels img) in
       let marks = all_below (mark_clear img s) 96 in
       let places = all_below (place_clear img s) 768 in
       let queues = all_below (queue_empty img s) 96 in
       and-iff (used && marks && places) queues
       (and-iff (used && marks) places
-      (and-iff used marks (all_iff (channel_clear img s) (channels img) channel_clear_says) (all_iff (mark_clear img s) 96 (mark_says img s)))
+      (and-iff used marks (all_iff (contents_clear img s) (channels img) contents_clear_says) (all_iff (mark_clear img s) 96 (mark_says img s)))
       (all_iff (place_clear img s) 768
       (λ i.
       let st = get_or s.stations i no_station in

@@ -103,14 +103,14 @@ module _ (img : List ℕ) (s : State) where
       (or-iff (ltb c (channels img)) (eqb q.count 0) (ge-iff c (channels img)) (eq_iff q.count 0))
 
   -- the places of channel c
-  unfoldable channel_unused : ℕ → Bool
-  channel_unused c = mark_clear img s c && all_below (station_clear img s c) 8 && queue_clear img s c
+  unfoldable pub channel_clear : ℕ → Bool
+  channel_clear c = mark_clear img s c && all_below (station_clear img s c) 8 && queue_clear img s c
 
-  channel_says :
+  pub channel_says :
       (c : ℕ)
-      → (channel_unused c ≡ true) ↔
+      → (channel_clear c ≡ true) ↔
       (((channels img ≤ c → mark_at s c ≡ 0) × ((j : ℕ) → j < 8 → StationClear img s c j)) × QueueClear img s c)
-  unfolding channel_unused
+  unfolding channel_clear
   channel_says c =
       let row = all_below (station_clear img s c) 8 in
       and-iff (mark_clear img s c && row) (queue_clear img s c)
@@ -124,20 +124,20 @@ module _ (img : List ℕ) (s : State) where
 
   -- all of them together
   pub fits_iff : (fits img s ≡ true) ↔ Places img s
-  unfolding fits counts_fit unused_clear channel_unused
+  unfolding fits counts_fit unused_clear channel_clear
   fits_iff =
       let a = cycles_fit img s in
       let b = firings_fit img s in
       let c = marks_fit img s in
       let d = counts_fit img s in
       let e = all_below (node_clear img s) 64 in
-      let f = all_below channel_unused 96 in
+      let f = all_below channel_clear 96 in
       let within : ℕ → Bool = λ k. stations_fit img s k && leb (queue_at s k).count (depth img k) in
       let says =
       and-iff (a && b && c && d && (e && f)) (all_below (balanced img s) (channels img))
       (and-iff (a && b && c && d) (e && f)
       (and-iff (a && b && c) d (and-iff (a && b) c (and-iff a b cycles_say firings_say) marks_say) (all_iff within (channels img) counts_say))
-      (and-iff e f (all_iff (node_clear img s) 64 node_says) (all_iff channel_unused 96 channel_says)))
+      (and-iff e f (all_iff (node_clear img s) 64 node_says) (all_iff channel_clear 96 channel_says)))
       (all_iff (balanced img s) (channels img) balance_says) in (
         λ q.
             let p = says.0 q in

@@ -3,7 +3,7 @@
 ghost use Rattle.std.specs.Prelude.{◌≡◌, ◌+◌, ◌<◌, ◌≤◌, length, eqb};
 ghost use Rattle.laws.specs.Lists.{zero_from};
 ghost use Rattle.netlist.specs.Image.{channels};
-ghost use Rattle.state.specs.FitsPasses.{counted, empty_node, empty_station, empty_queue, nodes_fit, channel_fits, channels_fit, channel_clear, channels_clear};
+ghost use Rattle.state.specs.FitsPasses.{counted, empty_node, empty_station, empty_queue, nodes_fit, channel_fits, channels_fit, contents_clear, channels_clear};
 
 use crate::{Node, State};
 use netlist::Netlist;
@@ -35,7 +35,7 @@ fn clear_queue(queue: Queue) -> bool
     queue.tokens.iter().skip(count).all(|token| *token == 0)
 }
 
-// The same as of a station.
+// Whether a queue that is not there holds no token, and is 0 throughout.
 #[tactic(auto, unfolding(crate::specs::FitsPasses::empty_queue))]
 fn empty_queue(queue: Queue) -> bool
     ensures { result ≡ empty_queue queue }
@@ -104,9 +104,9 @@ pub(crate) fn channels_fit(netlist: Netlist, state: &State) -> bool
 
 // A channel: places that no station of the image and no held token uses are 0.
 #[tactic(auto, using(netlist::specs::AcceptedLaws::channels_few))]
-fn channel_clear(netlist: Netlist, state: &State, c: u8) -> bool
+fn contents_clear(netlist: Netlist, state: &State, c: u8) -> bool
     requires { c < channels netlist.image.now }
-    ensures { result ≡ channel_clear netlist.entry.image.now state.now c }
+    ensures { result ≡ contents_clear netlist.entry.image.now state.now c }
 {
     let start = 8 * usize::from(c);
     let end = start + usize::from(netlist.channel(c).stations);
@@ -125,7 +125,7 @@ pub(crate) fn channels_clear(netlist: Netlist, state: &State) -> bool
 {
     let count = netlist.channels();
     let channels = usize::from(count);
-    let used = (0..count).all(|c| channel_clear(netlist, state, c));
+    let used = (0..count).all(|c| contents_clear(netlist, state, c));
     let marks = state.pending[channels..].iter().all(|mark| *mark == 0);
     let stations = state.stations[8 * channels..]
         .iter()

@@ -52,7 +52,8 @@ impl System {
         values[usize::from(self.feeders[at])]
     }
 
-    // The next value of node n.
+    // The next value of node n. A node's number is below 64 by what a netlist promises; here the arrays' places
+    // ask for it.
     #[tactic(auto, unfolding(crate::specs::System::value_after))]
     fn next(&self, values: &[i32; 65], n: usize) -> i32
         requires { n < 64 }

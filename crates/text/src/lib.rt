@@ -172,7 +172,8 @@ impl Measured<u32> for Counts {
     }
 }
 
-// ---- the lines. Each contract names its own text, and the room that is always enough for it.
+// ---- the lines. Each contract names its own text, and the room that is always enough for it: no one value, so
+// no struct holds them.
 
 // The first line of every trace.
 #[tactic(auto, unfolding(crate::specs::Trace::header, crate::specs::Ascii::ascii))]

@@ -135,7 +135,7 @@ pub fn cycle_line(image: &[u8], state: State, word: u64, out: &mut [u8]) -> Resu
 {
     let mut letters = [0u8; 96];
     let mut values = [0i32; 96];
-    // And so it does where a state is handed on by `?`, here and below.
+    // Two matches: where a state is handed on by `?`, here and below, this builds for minutes too.
     let after = match engine::step(image, state, word, &mut letters, &mut values) {
         Ok(after) => after,
         Err(refused) => return Err(refused),

@@ -8,7 +8,7 @@ use Rattle.netlist.specs.Image.{channels}
 use Rattle.relay.specs.RowCycle.{no_station}
 use Rattle.state.specs.State.{no_queue, mark_at, queue_at}
 use Rattle.state.specs.Fits.{mark_clear}
-use Rattle.state.specs.FitsPasses.{empty_station, empty_queue, channel_clear, place_clear, queue_empty, channels_clear}
+use Rattle.state.specs.FitsPasses.{empty_station, empty_queue, contents_clear, place_clear, queue_empty, channels_clear}
 use Rattle.state.proofs.Listed.{behind}
 use Rattle.state.proofs.passes.channels_clear.Goals as goal
 
@@ -23,7 +23,7 @@ returns c =
     let marks_long : length s.pending ≡ 96 = search rules in
     let stations_long : length s.stations ≡ 768 = search rules in
     let queues_long : length s.queues ≡ 96 = search rules in
-    let used = all_from_yields_List (channel_clear img s) _ _ _ c.all-used.ensures.ran (YieldsList-from_range 0 m m refl (omega arith)) (λ x b q k. search (rules, tests)) ∙ all_range (channel_clear img s) m in
+    let used = all_from_yields_List (contents_clear img s) _ _ _ c.all-used.ensures.ran (YieldsList-from_range 0 m m refl (omega arith)) (λ x b q k. search (rules, tests)) ∙ all_range (contents_clear img s) m in
     let marks = all_from_yields_List (λ x. eqb x 0) _ _ _ c.all-marks.ensures.ran (YieldsList-from_slice (take (96 - n) (drop n s.pending)) cc) (λ x b q k. search (rules, tests)) in
     let places = all_from_yields_List empty_station _ _ _ c.all-stations.ensures.ran (YieldsList-from_slice (take (768 - 8 * n) (drop (8 * n) s.stations)) cc) (λ x b q k. search (rules, tests)) in
     let queues = all_from_yields_List empty_queue _ _ _ c.all-queues.ensures.ran (YieldsList-from_slice (take (96 - n) (drop n s.queues)) cc) (λ x b q k. search (rules, tests)) in

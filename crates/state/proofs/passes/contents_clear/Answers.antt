@@ -1,4 +1,4 @@
--- `state::passes::channel_clear` meets its contract. Assumes nothing.
+-- `state::passes::contents_clear` meets its contract. Assumes nothing.
 use Rattle.std.proofs.Common.{rules, tests, ◌≡◌, ◌≤◌, ◌+◌, ◌*◌, ◌-◌, ◌∙◌, arith, length, take, drop}
 use Rattle.std.proofs.lemmas.Iterator.{YieldsList-from_slice}
 use Rattle.std.proofs.lemmas.Iterator.Search.{all_from_yields_List}
@@ -8,12 +8,12 @@ use Rattle.netlist.specs.Readers.{channel_at}
 use Rattle.relay.specs.Station.{clear}
 use Rattle.relay.specs.RowCycle.{no_station}
 use Rattle.state.specs.State.{station_at, queue_at}
-use Rattle.state.specs.FitsPasses.{empty_station, channel_clear}
+use Rattle.state.specs.FitsPasses.{empty_station, contents_clear}
 use Rattle.state.proofs.Listed.{part, part_rest}
-use Rattle.state.proofs.passes.channel_clear.Goals as goal
+use Rattle.state.proofs.passes.contents_clear.Goals as goal
 
 pub returns : goal.returns
-unfolding channel_clear queue_at station_at channel_at
+unfolding contents_clear queue_at station_at channel_at
 returns c =
     let img = c.args.netlist.image.now in
     let all = c.args.state.now.stations in
