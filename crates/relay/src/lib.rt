@@ -166,9 +166,9 @@ impl Row {
 
     // What link j shows: link 0 as given, link j above 0 by the station before it.
     #[tactic(auto, using(crate::specs::LinkLaws::link_own, crate::specs::RowCycleLaws::link_above), unfolding(crate::specs::Row::link_at))]
-    fn link_at(self, link: Link, j: usize) -> Link
+    fn link_at(&self, link: Link, j: usize) -> Link
         requires { j ≤ 8 }
-        ensures { result ≡ link_of (link_at (token link) (places self 8) j) }
+        ensures { result ≡ link_of (link_at (token link) (places self.now 8) j) }
     {
         if j == 0 {
             return link;
@@ -177,9 +177,9 @@ impl Row {
     }
 
     // Whether link j of the first n stations is stopped: by the station after it, or as given.
-    fn stop_at(self, n: usize, stop: bool, j: usize) -> bool
+    fn stop_at(&self, n: usize, stop: bool, j: usize) -> bool
         requires { n ≤ 8 }
-        ensures { result ≡ stopped (drop j (places self n)) stop }
+        ensures { result ≡ stopped (drop j (places self.now n)) stop }
     {
         if j < n {
             return self.stations[j].full();
@@ -188,9 +188,9 @@ impl Row {
     }
 
     // Station j of the first n after the cycle.
-    fn station_after(self, n: usize, link: Link, stop: bool, j: usize) -> Station
+    fn station_after(&self, n: usize, link: Link, stop: bool, j: usize) -> Station
         requires { (n ≤ 8) × (j < n) }
-        ensures { result ≡ station_after self n link stop j }
+        ensures { result ≡ station_after self.now n link stop j }
     {
         let above = self.link_at(link, j);
         let below = self.stop_at(n, stop, j + 1);

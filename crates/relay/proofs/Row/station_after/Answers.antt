@@ -9,7 +9,7 @@ use Rattle.relay.proofs.Row.station_after.Goals as goal
 pub returns : goal.returns
 returns c =
     let a = c.args in
-    let long : length a.self.stations ≡ 8 = search rules in
+    let long : length a.self.now.stations ≡ 8 = search rules in
     c.after.ensures
-    ∙ station_turn a.self long a.n c.requires.0 a.link a.stop a.j c.requires.1 c.link_at-above.result c.stop_at-below.result
+    ∙ station_turn a.self.now long a.n c.requires.0 a.link a.stop a.j c.requires.1 c.link_at-above.result c.stop_at-below.result
     c.link_at-above.ensures (rw add-one at c.stop_at-below.ensures)

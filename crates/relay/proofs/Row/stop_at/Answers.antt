@@ -10,11 +10,11 @@ use Rattle.relay.proofs.Row.stop_at.Goals as goal
 pub returns-then-j-n : goal.returns-then-j-n
 returns-then-j-n c =
     let a = c.args in
-    let long : length (places a.self a.n) ≡ a.n = length-places a.self a.n (search rules) c.requires in
-    rw (c.full.ensures, stopped_inside (places a.self a.n) a.stop a.j (rw long c.if-j-n.true), place_at a.self a.n a.j c.if-j-n.true)
+    let long : length (places a.self.now a.n) ≡ a.n = length-places a.self.now a.n (search rules) c.requires in
+    rw (c.full.ensures, stopped_inside (places a.self.now a.n) a.stop a.j (rw long c.if-j-n.true), place_at a.self.now a.n a.j c.if-j-n.true)
 
 pub returns : goal.returns
 returns c =
     let a = c.args in
-    let long : length (places a.self a.n) ≡ a.n = length-places a.self a.n (search rules) c.requires in
-    sym (stopped_end (places a.self a.n) a.stop a.j (rw long c.if-j-n.false))
+    let long : length (places a.self.now a.n) ≡ a.n = length-places a.self.now a.n (search rules) c.requires in
+    sym (stopped_end (places a.self.now a.n) a.stop a.j (rw long c.if-j-n.false))
