@@ -9,6 +9,7 @@ const SHOWN: usize = 3;
 /// A group of inputs and what came of them.
 pub struct Group {
     name: &'static str,
+    begun: usize,
     pub cases: usize,
     /// How often each number was answered; 0 is accepted.
     pub numbers: [usize; 256],
@@ -25,7 +26,17 @@ pub struct Case<'a, D: Fn() -> String> {
 
 impl Group {
     pub fn new(name: &'static str) -> Group {
-        Group { name, cases: 0, numbers: [0; 256], wrong: 0 }
+        Group { name, begun: 0, cases: 0, numbers: [0; 256], wrong: 0 }
+    }
+
+    /// Begins another test of the group, which may have any number of cases.
+    pub fn begin(&mut self) {
+        self.begun += 1;
+    }
+
+    /// How many tests were begun before the present one.
+    pub fn begun(&self) -> usize {
+        self.begun - 1
     }
 
     /// A case in which the library answered a number.

@@ -1,4 +1,5 @@
 //! Pseudo-random inputs: images, states, stall words, station records and the room of lent arrays, good and bad.
+use crate::calls::Coming;
 use crate::simulator::{inputs, Channel, Core, Netlist, State, STATE_BYTES, STATION_BYTES};
 use std::collections::VecDeque;
 
@@ -51,18 +52,33 @@ impl Random {
     }
 }
 
-/// How the ports of a netlist are wired.
+/// How the ports of a netlist are wired, and its kinds are drawn.
 #[derive(Clone, Copy)]
-enum Shape {
+pub enum Shape {
     Any,
     Ring,
     Reconvergent,
     SelfLoops,
     FanOut,
+    /// As any, of more than half as many nodes as there may be, and often all.
+    Large,
 }
 
 impl Shape {
-    const ALL: [Shape; 5] = [Shape::Any, Shape::Ring, Shape::Reconvergent, Shape::SelfLoops, Shape::FanOut];
+    pub const ALL: [Shape; 6] =
+        [Shape::Any, Shape::Ring, Shape::Reconvergent, Shape::SelfLoops, Shape::FanOut, Shape::Large];
+
+    /// Node 0 of reconvergent paths and of a fan-out counts, and no node of a ring does.
+    fn kind(self, random: &mut Random, node: usize) -> u8 {
+        match (self, node) {
+            (Shape::Reconvergent | Shape::FanOut, 0) => 1,
+            (Shape::Any | Shape::Large, _) => random.between(1, 9) as u8,
+            (Shape::Ring, _) if !random.one_in(4) => random.between(2, 5) as u8,
+            (Shape::Ring, _) => random.between(6, 9) as u8,
+            (Shape::Reconvergent, _) => random.pick(&[2, 3, 4, 5, 6, 6, 7, 7, 8, 8, 9]),
+            _ => random.between(2, 9) as u8,
+        }
+    }
 }
 
 /// An image of any sort.
@@ -107,22 +123,25 @@ fn plausible(random: &mut Random) -> Vec<u8> {
 
 /// An accepted netlist of 1 to 64 nodes and 0 to 96 channels.
 pub fn accepted(random: &mut Random) -> Netlist {
-    let nodes = match random.below(16) {
-        0 => 1,
-        1..=10 => random.between(2, 8),
-        11..=13 => random.between(9, 20),
-        14 => random.between(21, 64),
+    let shape = random.pick(&Shape::ALL);
+    of_shape(random, shape)
+}
+
+/// The same of a shape.
+pub fn of_shape(random: &mut Random, shape: Shape) -> Netlist {
+    let nodes = match (shape, random.below(16)) {
+        (Shape::Large, n) if n < 5 => 64,
+        (Shape::Large, _) => random.between(33, 63),
+        (_, 0) => 1,
+        (_, 1..=10) => random.between(2, 8),
+        (_, 11..=13) => random.between(9, 20),
+        (_, 14) => random.between(21, 64),
         _ => 64,
     };
-    let shape = random.pick(&Shape::ALL);
+    // A node counts if the channels would be over 96.
     let mut room = 96;
     let kinds = (0..nodes).map(|i| {
-        let kind = match (shape, i) {
-            (Shape::Reconvergent | Shape::FanOut, 0) => 1,
-            (Shape::Any, _) => random.between(1, 9) as u8,
-            (Shape::Reconvergent, _) => random.pick(&[2, 3, 4, 5, 6, 6, 7, 7, 8, 8, 9]),
-            _ => random.between(2, 9) as u8,
-        };
+        let kind = shape.kind(random, i);
         let kind = if inputs(kind).unwrap_or(0) > room { 1 } else { kind };
         room -= inputs(kind).unwrap_or(0);
         kind
@@ -286,6 +305,66 @@ pub fn fitting_word(random: &mut Random, nodes: usize) -> u64 {
     word & (u64::MAX >> (64 - nodes.clamp(1, 64)))
 }
 
+/// Which nodes are stalled, cycle by cycle: at random, or as tries hardest to upset an engine.
+#[derive(Clone, Copy)]
+pub enum Pattern {
+    /// At random, a quarter of them.
+    Few,
+    Nobody,
+    /// All, ten cycles of twenty.
+    Bursts,
+    /// One node for forty cycles of sixty.
+    One(usize),
+    /// The even and the odd ones by turns.
+    ByTurns,
+    /// All but one, another one every third cycle.
+    AllButOne,
+    /// At random, two cycles of six.
+    Pairs,
+    /// At random, half of them.
+    Many,
+}
+
+impl Pattern {
+    /// Pattern `number` of eight.
+    pub fn of(number: usize, random: &mut Random) -> Pattern {
+        match number {
+            0 => Pattern::Few,
+            1 => Pattern::Nobody,
+            2 => Pattern::Bursts,
+            3 => Pattern::One(random.below(64)),
+            4 => Pattern::ByTurns,
+            5 => Pattern::AllButOne,
+            6 => Pattern::Pairs,
+            _ => Pattern::Many,
+        }
+    }
+
+    /// The word of cycle `t`.
+    pub fn word(self, random: &mut Random, t: usize, nodes: usize) -> u64 {
+        let early = |word: u64, cycles: usize, span: usize| if t % span < cycles { word } else { 0 };
+        let word = match self {
+            Pattern::Few => random.draw() & random.draw(),
+            Pattern::Nobody => 0,
+            Pattern::Bursts => early(u64::MAX, 10, 20),
+            Pattern::One(node) => early(1 << (node % nodes), 40, 60),
+            Pattern::ByTurns => 0x5555_5555_5555_5555 << (t % 2),
+            Pattern::AllButOne => !(1 << (t / 3 % nodes)),
+            Pattern::Pairs => early(random.draw(), 2, 6),
+            Pattern::Many => random.draw(),
+        };
+        word & (u64::MAX >> (64 - nodes))
+    }
+}
+
+/// A word with one bit, at or above N; of 64 nodes, a word with every bit, which is not refused.
+pub fn word_above(random: &mut Random, nodes: usize) -> u64 {
+    match nodes {
+        64 => u64::MAX,
+        _ => 1 << random.between(nodes, 63),
+    }
+}
+
 /// A state for a netlist, fitting or not. A netlist that is not there gets one of some other.
 pub fn state(random: &mut Random, net: Option<&Netlist>) -> Vec<u8> {
     let other;
@@ -370,6 +449,54 @@ fn damage_state(bytes: &mut [u8], random: &mut Random, net: &Netlist) {
     }
 }
 
+/// Draws one field of a state anew, in what the netlist uses or, one time in eight, anywhere. A token of another value
+/// still fits.
+pub fn redraw_field(bytes: &mut [u8], random: &mut Random, net: &Netlist) {
+    let mut place = |used: usize, places: usize| {
+        let end = if random.one_in(8) { places } else { used };
+        random.below(end)
+    };
+    let (node, channel) = (place(net.nodes.len(), 64), place(net.channels.len(), 96));
+    let station = 612 + 72 * channel + 9 * random.below(8);
+    let queue = 7_524 + 33 * channel;
+    let token = 4 * random.below(2);
+    let count = if random.one_in(4) { random.draw() as u8 } else { random.below(4) as u8 };
+    let few = random.below(32) as u32;
+    match random.below(8) {
+        0 => put(bytes, 4 + 8 * node, random.value() as u32),
+        1 => put(bytes, station + token, random.value() as u32),
+        2 => put(bytes, queue + token, random.value() as u32),
+        3 => bytes[516 + channel] = count,
+        4 => bytes[station + 8] = count,
+        5 => bytes[queue + 32] = count,
+        6 => put(bytes, 8 + 8 * node, if random.one_in(8) { u32::MAX } else { few }),
+        _ => put(bytes, 0, random.pick(&[0, 999_999, 1_000_000, 1_000_001, u32::MAX, few])),
+    }
+}
+
+fn put(bytes: &mut [u8], at: usize, number: u32) {
+    bytes[at..at + 4].copy_from_slice(&number.to_le_bytes());
+}
+
+/// The image of a netlist with something changed: its length, every channel's stations, a byte of its channels or any.
+pub fn changed_image(random: &mut Random, net: &Netlist) -> Vec<u8> {
+    let mut image = encode(net);
+    let (length, channels) = (image.len(), 5 * net.channels.len());
+    match random.below(10) {
+        0 => image.truncate(random.below(length)),
+        1 => image.truncate(random.below(3)),
+        2 => image.push(0),
+        3 => {
+            let mut full = net.clone();
+            full.channels.iter_mut().for_each(|channel| channel.stations = 8);
+            image = encode(&full);
+        }
+        4..=6 if channels > 0 => image[length - channels + random.below(channels)] = random.below(12) as u8,
+        _ => image[random.below(length)] = if random.one_in(3) { random.draw() as u8 } else { random.below(12) as u8 },
+    }
+    image
+}
+
 fn resize_state(bytes: &mut Vec<u8>, random: &mut Random) {
     let any = random.below(STATE_BYTES);
     let length = random.pick(&[0, 1, STATE_BYTES - 1, STATE_BYTES + 1, 2 * STATE_BYTES, any]);
@@ -386,6 +513,11 @@ pub fn room(random: &mut Random, need: usize) -> usize {
         7 => need + 1,
         _ => need + random.below(100),
     }
+}
+
+/// What comes to a bench in a cycle.
+pub fn coming(random: &mut Random) -> Coming {
+    Coming { valid: random.one_in(2), value: random.value(), stop: random.one_in(2) }
 }
 
 /// A station record, mostly in form.

@@ -2,4 +2,3 @@
 pub mod Bench
 pub mod ByValue
 pub mod Copy
-pub mod Examples

@@ -1,28 +1,23 @@
--- What is written is read back: the bytes of a state are that state. So whoever hands a call the bytes that the call before has left goes on from the
--- state that it made: fresh states, steps and runs on bytes are those of `state` and `engine`, call by call. What `Typed` asks holds of every state
--- that a function is handed or answers, by its declared type.
+-- Whoever hands a call the bytes that the call before has left goes on from the state that it made, since what is written is read back (`layout`'s
+-- proofs/Back): fresh states, steps and runs on bytes are those of `state` and `engine`, call by call. What `Typed` asks holds of every state that a
+-- function is handed or answers, by its declared type.
 use Rattle.std.specs.Prelude.{Bool, true, false, List, ◌≡◌, refl, ℕ, ℤ, length}
 use Rattle.std.proofs.Common.{⊎_elim, sym, ap, ◌∙◌, eqb-true}
 use Rattle.std.proofs.Math.Dec.{eqb}
 use Rattle.laws.specs.Cases.{true_or_false}
 use Rattle.laws.specs.Choice.{◌if◌else◌}
-use Rattle.netlist.specs.Judge.{judge}
+use Rattle.verdict.specs.Judge.{judge}
 use Rattle.state.specs.declared.State.{State}
 use Rattle.state.specs.Fresh.{fresh_answer}
 use Rattle.cycle.specs.Cycle.{state_after}
 use Rattle.engine.specs.Answer.{step_of, step_answer, run_answer}
+use Rattle.engine.specs.AnswerLaws.{run_still}
 use Rattle.engine.specs.Done.{StepDone}
-use Rattle.capi.specs.Bytes.{state_bytes, state_length, state_in}
-use Rattle.capi.specs.BytesLaws.{state_long}
+use Rattle.layout.specs.Bytes.{state_bytes, state_length, state_in}
 use Rattle.capi.specs.Calls.{fresh_number, fresh_over, state_left, FreshCall, StepCall, RunCall}
 use Rattle.capi.specs.CallsLaws.{state-stored}
-use Rattle.capi.specs.Typed.{Typed}
-use Rattle.capi.proofs.BackLaws.{places_back, run_still}
-
--- the bytes of a state are that state
-pub state_back : (s : State) → Typed s → state_in (state_bytes s) ≡ s
-unfolding state_in
-state_back s typed = rw (state_long s) (places_back s typed)
+use Rattle.layout.specs.Typed.{Typed}
+use Rattle.layout.proofs.Back.{state_back}
 
 -- the bytes of one of two states
 bytes_of_choice : (test : Bool) (a b : State) → (state_bytes a if test else state_bytes b) ≡ state_bytes (a if test else b)

@@ -1,4 +1,2 @@
--- The laws that rest on the bytes of a number: what is written is read back, and the definitions computed on examples.
-pub mod BackLaws
+-- What is written is read back: calls on bytes are those of the crates below.
 pub mod Back
-pub mod Examples

@@ -4,16 +4,16 @@ use Rattle.std.specs.Prelude.{Bool, not, ◌≡◌, ℕ, eqb, ltb, ℤ, length, 
 use mathlib.Core.List.{List, ◌++◌, flat_map}
 use Rattle.std.specs.Bool.{then_some}
 use Rattle.laws.specs.Choice.{◌if◌else◌}
-use Rattle.netlist.specs.Judge.{judge}
+use Rattle.verdict.specs.Judge.{judge}
 use Rattle.relay.specs.declared.Station.{Station}
 use Rattle.state.specs.declared.State.{State}
 use Rattle.state.specs.Fresh.{fresh_answer}
 use Rattle.cycle.specs.Cycle.{state_after}
 use Rattle.engine.specs.Answer.{step_of, letters_written, values_written, run_answer}
-use Rattle.text.specs.Write.{written_answer, written_over, write_told}
+use Rattle.writer.specs.Write.{written_answer, written_over, write_told}
 use Rattle.tracer.specs.Done.{line_answer, line_over, closing_answer, closing_over}
 use Rattle.bench.specs.Bench.{bench_answer, bench_after}
-use Rattle.capi.specs.Bytes.{state_bytes, state_length, station_bytes, state_in}
+use Rattle.layout.specs.Bytes.{state_bytes, state_length, station_bytes, state_in}
 
 -- ---- a fresh state: "1 to 11 rising", then 13, "a lent array shorter than the result"
 unfoldable pub fresh_number : List ℕ → ℕ → ℕ

@@ -1,15 +1,16 @@
 -- What each way out of the calls has done. Assumes nothing.
-use Rattle.std.specs.Prelude.{true, false, List, ◌++◌, ◌≡◌, ℕ, ◌≤◌, ◌<◌, ℤ, length, drop, Result, Option, None, Some, unwrap_or}
+use Rattle.std.specs.Prelude.{true, false, List, ◌++◌, ◌≡◌, ℕ, ◌≤◌, ◌<◌, ℤ, length, drop, Result}
 use Rattle.std.proofs.Common.{true≢false, ◌∙◌, arith}
 use Rattle.std.proofs.Math.Logic.{⊎_elim}
 use Rattle.std.proofs.Math.Path.{sym, ap}
 use Rattle.std.proofs.Math.Decide.{ℕ_discrete}
-use borrow.Author.Tests.{eqb-true, eqb-false, ne_eqb, lt-ltb, le-ltb}
-use Rattle.std.proofs.Math.Dec.{eqb}
+use borrow.Author.Tests.{eqb-true, eqb-false, ne_eqb}
+use Rattle.std.proofs.Math.Dec.{eqb, ltb}
 use Rattle.laws.specs.Cases.{true_or_false}
-use Rattle.netlist.specs.Judge.{judge}
+use Rattle.laws.specs.Choice.{◌if◌else◌}
+use Rattle.verdict.specs.Judge.{judge}
 use Rattle.state.specs.declared.State.{State}
-use Rattle.state.specs.Fits.{fits, cycles_fit}
+use Rattle.fitting.specs.Fits.{fits, cycles_fit}
 use Rattle.state.specs.Fresh.{fresh_answer, FreshDone}
 use Rattle.cycle.specs.Cycle.{state_after}
 use Rattle.state.specs.Told.{Told}
@@ -17,15 +18,14 @@ use Rattle.engine.specs.Answer.{step_number, step_of, step_answer, RunTold}
 use Rattle.engine.specs.AnswerLaws.{number_ok, state_ok, run_none}
 use Rattle.engine.specs.Done.{StepDone, RunDone}
 use Rattle.engine.specs.Taken.{state_number}
-use Rattle.refusal.specs.Number.{number, number_if}
-use Rattle.refusal.specs.NumberLaws.{number_positive}
+use Rattle.refusal.specs.Number.{number_of}
 use Rattle.refusal.specs.declared.Refusal.{Refusal}
-use Rattle.refusal.specs.declared.Refusal.TheVariants.{Room}
-use Rattle.text.specs.Write.{WriteDone, WriteTold, write_told}
+use Rattle.writer.specs.Write.{written_answer, written_over, WriteDone, WriteTold, write_told}
+use Rattle.writer.specs.WriteLaws.{write_done}
 use Rattle.tracer.specs.DoneLaws.{line_made}
 use Rattle.tracer.specs.Done.{LineTold, line_answer, LineDone, ClosingDone}
-use Rattle.capi.specs.Bytes.{state_bytes, state_length, state_in, no_state}
-use Rattle.capi.specs.BytesLaws.{all_stored}
+use Rattle.layout.specs.Bytes.{state_bytes, state_length, state_in, no_state}
+use Rattle.layout.specs.BytesLaws.{all_stored, state_long}
 use Rattle.capi.specs.Calls.{fresh_number, fresh_over, state_left, FreshCall, StepCall, RunCall, LineCall, ClosingCall, TextCall}
 
 -- ---- bytes of another length than a state's
@@ -47,47 +47,47 @@ pub state-stored :
     (bytes : List ℕ) {left : List ℕ} (s : State) → length bytes ≡ state_length → left ≡ state_bytes s ++ drop state_length bytes → left ≡ state_bytes s
 state-stored bytes s e q = all_stored bytes (state_bytes s) state_length (omega (arith, e)) q
 
+-- there is room for it
+stored :
+    (s : State) {bytes left : List ℕ} {written : Result ℕ Refusal} → WriteDone (state_bytes s) bytes written left → length bytes ≡ state_length
+    → (number_of written ≡ 0) × (left ≡ state_bytes s)
+stored s {bytes} w e =
+    let long = state_long s in
+    let d = write_done (state_bytes s) bytes w (omega (arith, long, e)) in
+    (ap number_of d.0, all_stored bytes (state_bytes s) (length (state_bytes s)) (omega (arith, long, e)) d.1)
+
 -- ---- a fresh state
 module _ (old : List ℕ) {img : List ℕ} {answer : Told} (d : FreshDone img answer) where
   fresh-number : answer.number ≡ judge img
   unfolding fresh_answer
   fresh-number = ap (λ (a : Told). a.number) d.answered
 
-  pub fresh_written :
-      {left : List ℕ} → state_length ≤ length old → left ≡ state_bytes answer.state ++ drop state_length old → FreshCall img old answer.number left
-  unfolding fresh_number fresh_over
-  fresh_written h e =
-      let l = le-ltb (length old) state_length h in
-      record {
-        numbered =
-            fresh-number ∙ ⊎_elim
-            (λ (q : eqb (judge img) 0 ≡ true). rw (q, l) (eqb-true (judge img) 0 q))
-            (λ (q : eqb (judge img) 0 ≡ false). rw q)
-            (true_or_false (eqb (judge img) 0));
-        over = e ∙ rw (l, d.answered);
-      }
+  module _ {written : Result ℕ Refusal} {left : List ℕ} (w : WriteDone (state_bytes answer.state) old written left) where
+    fresh-left : left ≡ fresh_over img old
+    unfolding fresh_over written_over
+    fresh-left =
+        w.over ∙ rw (state_long answer.state)
+        (ap (λ (a : Told). old if ltb (length old) state_length else (state_bytes a.state ++ drop state_length old)) d.answered)
 
-  fresh_13 : length old < state_length → answer.number ≡ 0 → FreshCall img old 13 old
-  unfolding fresh_number fresh_over
-  fresh_13 h z =
-      let l = lt-ltb (length old) state_length h in
-      let j : judge img ≡ 0 = sym fresh-number ∙ z in
-      record { numbered = rw (j, l); over = rw l }
+    written-number : number_of written ≡ (13 if ltb (length old) state_length else 0)
+    unfolding written_answer
+    written-number =
+        ap number_of w.answered ∙ rw (state_long answer.state)
+        (⊎_elim
+        (λ (q : ltb (length old) state_length ≡ true). rw q)
+        (λ (q : ltb (length old) state_length ≡ false). rw q)
+        (true_or_false (ltb (length old) state_length)))
 
-  fresh-judged : length old < state_length → (answer.number ≡ 0 → ⊥) → FreshCall img old answer.number old
-  unfolding fresh_number fresh_over
-  fresh-judged h n =
-      let l = lt-ltb (length old) state_length h in
-      let j = ne_eqb (judge img) 0 (λ z. n (fresh-number ∙ z)) in
-      record { numbered = fresh-number ∙ rw j; over = rw l }
+    -- 13 only where the judge refuses nothing
+    pub fresh_made : answer.number ≡ 0 → FreshCall img old (number_of written) left
+    unfolding fresh_number
+    fresh_made z =
+        let j : judge img ≡ 0 = sym fresh-number ∙ z in
+        record { numbered = written-number ∙ rw j; over = fresh-left }
 
-  -- too few bytes are lent: it is refused as the judge says, or else for want of room
-  pub fresh_short :
-      length old < state_length → (refusal : Option Refusal) {n : ℕ} → answer.number ≡ number_if refusal → n ≡ number (unwrap_or refusal Room)
-      → FreshCall img old n old
-  fresh_short h None z e = rw e (fresh_13 h z)
-  fresh_short h (Some r) z e =
-      rw (e, ← z) (fresh-judged h (λ q. absurd (omega (arith, q, z, number_positive r))))
+    pub fresh_refused : (answer.number ≡ 0 → ⊥) → FreshCall img old answer.number left
+    unfolding fresh_number
+    fresh_refused n = record { numbered = fresh-number ∙ rw (ne_eqb (judge img) 0 (λ z. n (fresh-number ∙ z))); over = fresh-left }
 
 -- ---- a step
 module _
@@ -97,19 +97,20 @@ module _
   unfolding step_answer
   step-number = ap (λ (a : Told). a.number) d.answered
 
-  pub step-sized : answer.number ≡ 0 → length bytes ≡ state_length
+  step-sized : answer.number ≡ 0 → length bytes ≡ state_length
   unfolding step_of
   step-sized z = sized img bytes (number_ok img (state_in bytes) word (length letters) (length values) (sym step-number ∙ z)).0
 
   pub step-called :
-      {left : List ℕ} → answer.number ≡ 0 → left ≡ state_bytes answer.state ++ drop state_length bytes
-      → StepCall img bytes word letters values answer.number left letters_left values_left
+      {written : Result ℕ Refusal} {left : List ℕ} → answer.number ≡ 0 → WriteDone (state_bytes answer.state) bytes written left
+      → StepCall img bytes word letters values (number_of written) left letters_left values_left
   unfolding state_left step_answer
-  step-called z e =
+  step-called z w =
+      let l = stored answer.state w (step-sized z) in
       let t : answer.state ≡ state_after img word (state_in bytes) = ap (λ (a : Told). a.state) d.answered ∙ rw (sym step-number ∙ z) in
       record {
-        numbered = step-number;
-        changed = state-stored bytes answer.state (step-sized z) e ∙ rw (z, t);
+        numbered = l.0 ∙ sym z ∙ step-number;
+        changed = l.1 ∙ rw (l.0, t);
         lettered = d.lettered;
         valued = d.valued;
       }
@@ -121,7 +122,7 @@ module _
 
 -- ---- a run
 module _ (bytes : List ℕ) {img words : List ℕ} {answer : RunTold} (d : RunDone img (state_in bytes) words answer) where
-  pub run-sized : (answer.steps ≡ 0 → ⊥) → length bytes ≡ state_length
+  run-sized : (answer.steps ≡ 0 → ⊥) → length bytes ≡ state_length
   run-sized h = at (ℕ_discrete (state_number img (state_in bytes)) 0)
     where
       at : Dec (state_number img (state_in bytes) ≡ 0) → length bytes ≡ state_length
@@ -129,13 +130,13 @@ module _ (bytes : List ℕ) {img words : List ℕ} {answer : RunTold} (d : RunDo
       at (no n) = absurd (h (ap (λ (a : RunTold). a.steps) (d.answered ∙ sym (run_none img (state_in bytes) words n))))
 
   pub run-called :
-      {left : List ℕ} → (answer.steps ≡ 0 → ⊥) → left ≡ state_bytes answer.state ++ drop state_length bytes
+      {written : Result ℕ Refusal} {left : List ℕ} → (answer.steps ≡ 0 → ⊥) → WriteDone (state_bytes answer.state) bytes written left
       → RunCall img bytes words answer.number answer.steps left
-  run-called h e =
+  run-called h w =
       record {
         numbered = ap (λ (a : RunTold). a.number) d.answered;
         counted = ap (λ (a : RunTold). a.steps) d.answered;
-        changed = state-stored bytes answer.state (run-sized h) e ∙ rw (ne_eqb answer.steps 0 h)
+        changed = (stored answer.state w (run-sized h)).1 ∙ rw (ne_eqb answer.steps 0 h)
             (ap (λ (a : RunTold). state_bytes a.state) d.answered);
       }
 
@@ -154,7 +155,7 @@ module _
   line_number : answer.number ≡ (line_answer img (state_in bytes) word out).number
   line_number = ap (λ (a : LineTold). a.number) d.answered
 
-  pub line_sized : answer.number ≡ 0 → length bytes ≡ state_length
+  line_sized : answer.number ≡ 0 → length bytes ≡ state_length
   unfolding line_answer
   line_sized z =
       let number = step_number img (state_in bytes) word 96 96 in
@@ -172,14 +173,15 @@ module _
       })).1
 
   pub line_called :
-      {left : List ℕ} → answer.number ≡ 0 → left ≡ state_bytes answer.state ++ drop state_length bytes
-      → LineCall img bytes word out answer.number answer.length left out_left
+      {written : Result ℕ Refusal} {left : List ℕ} → answer.number ≡ 0 → WriteDone (state_bytes answer.state) bytes written left
+      → LineCall img bytes word out (number_of written) answer.length left out_left
   unfolding state_left
-  line_called z e =
+  line_called z w =
+      let l = stored answer.state w (line_sized z) in
       record {
-        numbered = line_number;
+        numbered = l.0 ∙ sym z ∙ line_number;
         measured = ap (λ (a : LineTold). a.length) d.answered;
-        changed = state-stored bytes answer.state (line_sized z) e ∙ rw (z, line_after z);
+        changed = l.1 ∙ rw (l.0, line_after z);
         over = d.over;
       }
 

@@ -1,9 +1,6 @@
--- What the calls for C answer. What the contracts say, and what a reader has to believe: how a state and records are written as bytes and read from
--- them, and what each call has done. They are computed on examples in `proofs/Examples`; `proofs/Back` proves that what is written is read back.
-pub mod Bytes
+-- What the calls for C answer. What the contracts say, and what a reader has to believe: what each call has done, on the state or the records that bytes
+-- are. `proofs/Back` proves that calls on bytes are those of the crates below.
 pub mod Calls
-pub mod Typed
 -- the laws behind it
-pub mod BytesLaws
 pub mod CallsLaws
 pub mod RecordsLaws

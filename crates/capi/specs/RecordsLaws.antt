@@ -3,7 +3,7 @@ use Rattle.std.specs.Prelude.{Bool, false, ◌≡◌, refl, ℕ, ◌+◌, ◌*�
 use Rattle.std.specs.Result.{is_ok}
 use Rattle.std.proofs.Math.Bool.{true}
 use Rattle.std.proofs.Common.{true≢false, ◌∙◌, arith, length-append, take_at}
-use mathlib.Core.List.{List, [], ◌∷◌, ◌++◌, append-nil, flat_map}
+use mathlib.Core.List.{List, [], ◌∷◌, ◌++◌, flat_map}
 use Rattle.std.proofs.Math.Logic.{⊎_elim}
 use Rattle.std.proofs.Math.Path.{sym, ap}
 use Rattle.std.proofs.Math.Decide.{ℕ_discrete}
@@ -12,7 +12,7 @@ use Rattle.std.proofs.Math.Dec.{leb}
 use Rattle.laws.specs.BelowLaws.{all_at}
 use Rattle.laws.specs.Cases.{true_or_false, lt-or-ge, or_left, or_right}
 use Rattle.laws.specs.Table.{table}
-use Rattle.laws.specs.TableLaws.{length-table, table_at, take-table, table_own}
+use Rattle.laws.specs.TableLaws.{length-table, table_at, take-table}
 use Rattle.relay.specs.declared.Row.{Row}
 use Rattle.relay.specs.declared.Station.{Station}
 use Rattle.relay.specs.RowCycle.{no_station}
@@ -24,8 +24,10 @@ use Rattle.bench.specs.Bench.{Told, told, fits, bench_number, refusal, reply, be
 use Rattle.bench.proofs.BenchLaws.{refused_number, bench_long, length_bench, station-done}
 use Rattle.bench.specs.ByValue.{BenchedTold, station_benched, row_benched}
 use Rattle.bench.proofs.Kept.{accepted_long, accepted-fits}
-use Rattle.capi.specs.Bytes.{each, station_bytes, no_record, record_in, row_record, record_count, row_in}
-use Rattle.capi.specs.BytesLaws.{all_stored}
+use Rattle.layout.specs.Bytes.{station_bytes, no_record, record_in, row_record, record_count, row_in}
+use Rattle.layout.specs.BytesLaws.{all_stored, flat_long, station_long}
+use Rattle.writer.specs.Write.{WriteDone}
+use Rattle.writer.specs.WriteLaws.{write_done}
 use Rattle.capi.specs.Calls.{BenchCall}
 
 -- a bench answers its number
@@ -41,10 +43,6 @@ answer-number row link stop =
 no_record-fits : fits no_record ≡ false
 unfolding fits no_record
 no_record-fits = refl
-
--- the first elements of a list, read one by one
-pub first_own : {A : Type 0} (l : List A) (d : A) (n : ℕ) → n ≤ length l → table (λ i. get_or l i d) n ≡ take n l
-first_own l d n h = sym (take-table (λ i. get_or l i d) n (length l) h) ∙ ap (take n) (sym (table_own l d))
 
 -- a bench that is not refused, and one that is
 pub ok_number : (answer : Result Answer Refusal) → is_ok answer ≡ true → (told answer).number ≡ 0
@@ -63,6 +61,15 @@ pub told_call :
     → BenchCall row bytes valid value stop u.number u.letter u.value u.taken left
 told_call row bytes valid value stop left e call = rw e call
 
+-- records over the bytes of as many are all of them
+records-left :
+    (records : List Station) {bytes left : List ℕ} {written : Result ℕ Refusal} → WriteDone (flat_map station_bytes records) bytes written left
+    → length bytes ≡ 9 * length records → left ≡ flat_map station_bytes records
+records-left records {bytes} w e =
+    let text = flat_map station_bytes records in
+    let long = flat_long station_bytes 9 station_long records in
+    all_stored bytes text (length text) (omega (arith, long, e)) (write_done text bytes w (omega (arith, long, e))).1
+
 -- ---- a station
 module _
     (bytes : List ℕ) (valid : Bool) (value : ℤ) (stop : Bool) {b : BenchedTold Station} (d : b ≡ station_benched (record_in bytes) (then_some valid value) stop) where
@@ -75,7 +82,7 @@ module _
   after : b.after ∷ [] ≡ bench_after row (then_some valid value) stop
   after = ap (λ (x : BenchedTold Station). x.after ∷ []) d ∙ (station-done (record_in bytes) (then_some valid value) stop).left
 
-  pub record_sized : b.answer.number ≡ 0 → length bytes ≡ 9
+  record_sized : b.answer.number ≡ 0 → length bytes ≡ 9
   unfolding record_in
   record_sized z = at (ℕ_discrete (length bytes) 9)
     where
@@ -89,12 +96,9 @@ module _
           absurd (true≢false (sym (rw (ne_eqb (length bytes) 9 n) at f) ∙ no_record-fits))
 
   pub station-called :
-      {left : List ℕ} → b.answer.number ≡ 0 → left ≡ station_bytes b.after ++ drop 9 bytes
+      {written : Result ℕ Refusal} {left : List ℕ} → b.answer.number ≡ 0 → WriteDone (flat_map station_bytes (b.after ∷ [])) bytes written left
       → BenchCall row bytes valid value stop b.answer.number b.answer.letter b.answer.value b.answer.taken left
-  unfolding flat_map
-  station-called z e =
-      let s = all_stored bytes (station_bytes b.after) 9 (omega (arith, record_sized z)) e in
-      record { answered = answered; changed = s ∙ rw (z, ← after) (sym (append-nil (station_bytes b.after))) }
+  station-called z w = record { answered = answered; changed = records-left (b.after ∷ []) w (record_sized z) ∙ rw (z, ← after) }
 
   pub station_refused :
       (b.answer.number ≡ 0 → ⊥) → BenchCall row bytes valid value stop b.answer.number b.answer.letter b.answer.value
@@ -134,7 +138,7 @@ module _ (bytes : List ℕ) where
 
 module _
     (bytes : List ℕ) (row : Row)
-    (r : record_count bytes ≤ 8 → take (record_count bytes) row.stations ≡ table (row_record bytes) (record_count bytes)) (valid : Bool) (value : ℤ)
+    (r : row.stations ≡ table (row_record bytes) 8) (valid : Bool) (value : ℤ)
     (stop : Bool)
     {b : BenchedTold Row} (d : b ≡ row_benched row (record_count bytes) (then_some valid value) stop) where
   abbrev n : ℕ
@@ -142,7 +146,7 @@ module _
 
   first_few : n ≤ 8 → take n row.stations ≡ row_in bytes
   unfolding row_in
-  first_few h = r h
+  first_few h = ap (take n) r ∙ take-table (row_record bytes) n 8 h
 
   row-answered : b.answer ≡ bench_answer (row_in bytes) (then_some valid value) stop
   unfolding row_benched
@@ -157,8 +161,8 @@ module _
     accepted-row : bench_number (row_in bytes) ≡ 0
     accepted-row = sym (answer-number (row_in bytes) (then_some valid value) stop) ∙ sym (ap (λ (x : Told). x.number) row-answered) ∙ z
 
-    pub row_sized : (n ≤ 8) × (9 * n ≤ length bytes)
-    row_sized = ((row_few bytes accepted-row).1, omega (arith, row-whole bytes accepted-row))
+    pub row_sized : n ≤ 8
+    row_sized = (row_few bytes accepted-row).1
 
     -- the first n records are the row after the bench
     abbrev after-row : List Station
@@ -166,23 +170,20 @@ module _
 
     stations-after : b.after.stations ≡ after-row ++ drop n row.stations
     unfolding row_benched
-    stations-after = ap (λ (x : BenchedTold Row). x.after.stations) d ∙ rw (le-ltb 8 n row_sized.0, first_few row_sized.0)
+    stations-after = ap (λ (x : BenchedTold Row). x.after.stations) d ∙ rw (le-ltb 8 n row_sized, first_few row_sized)
 
     after_long : length after-row ≡ n
     after_long = length_bench (row_in bytes) (then_some valid value) stop ∙ length-row bytes
 
-    records-after : table (λ i. get_or b.after.stations i no_station) n ≡ after-row
-    records-after =
-        first_own b.after.stations no_station n (rw (stations-after, length-append, after_long) (omega arith))
-        ∙ rw stations-after (take_at after-row (drop n row.stations) n after_long)
+    records-after : take n b.after.stations ≡ after-row
+    records-after = rw stations-after (take_at after-row (drop n row.stations) n after_long)
 
     pub row-called :
-        {left : List ℕ} → left ≡ each station_bytes (λ i. get_or b.after.stations i no_station) n ++ drop (9 * n) bytes
+        {written : Result ℕ Refusal} {left : List ℕ} → WriteDone (flat_map station_bytes (take n b.after.stations)) bytes written left
         → BenchCall (row_in bytes) bytes valid value stop b.answer.number b.answer.letter b.answer.value b.answer.taken left
-    row-called e =
-        let g : ℕ → Station = λ i. get_or b.after.stations i no_station in
-        let s = all_stored bytes (each station_bytes g n) (9 * n) (omega (arith, row-whole bytes accepted-row)) e in
-        record { answered = row-answered; changed = s ∙ rw z (ap (flat_map station_bytes) records-after) }
+    row-called w =
+        let l = records-left after-row (rw records-after at w) (row-whole bytes accepted-row ∙ ap (λ k. 9 * k) (sym after_long)) in
+        record { answered = row-answered; changed = l ∙ rw z }
 
   pub row_refused :
       (b.answer.number ≡ 0 → ⊥)

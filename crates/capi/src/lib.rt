@@ -6,26 +6,21 @@
 // its last references.
 #![tactic(auto)]
 
-mod read;
-mod write;
-
 ghost use Rattle.std.specs.Prelude.{[], ◌∷◌, ◌≡◌, length};
-ghost use Rattle.netlist.specs.Judge.{judge};
+ghost use Rattle.verdict.specs.Judge.{judge};
 ghost use Rattle.refusal.specs.Number.{number_of, number_if};
 ghost use Rattle.strict.specs.Answer.{strict_number, strict_written};
-ghost use Rattle.state.specs.Told.{told};
 ghost use Rattle.bench.specs.Bench.{told as bench_told};
 ghost use Rattle.text.specs.Trace.{header};
-ghost use Rattle.capi.specs.Bytes.{record_in, row_in};
+ghost use Rattle.layout.specs.Bytes.{record_in, row_in};
 ghost use Rattle.capi.specs.Calls.{FreshCall, StepCall, RunCall, LineCall, ClosingCall, TextCall, BenchCall};
 
 use bench::Answer;
 use refusal::Refusal;
-use state::{Refused, State};
-use text::Text;
+use state::State;
 
 // The number that C is told.
-fn number(answer: Result<(), Refusal>) -> u8
+fn number<T: Copy>(answer: Result<T, Refusal>) -> u8
     ensures { result ≡ number_of answer }
 {
     stop_number(answer.err())
@@ -38,33 +33,11 @@ fn stop_number(stopped: Option<Refusal>) -> u8
     stopped.map_or(0, Refusal::number)
 }
 
-// A state, and why the call was refused that returned it: C is handed a state by a refused call too.
-#[derive(Clone, Copy)]
-struct Returned {
-    state: State,
-    refusal: Option<Refusal>,
-}
-
-fn as_returned(answer: Result<State, Refused>) -> Returned
-    ensures { told answer ≡ record { number = number_if result.refusal; state = result.state } }
-{
-    match answer {
-        Ok(state) => Returned {
-            state,
-            refusal: None,
-        },
-        Err(refused) => Returned {
-            state: refused.state,
-            refusal: Some(refused.refusal),
-        },
-    }
-}
-
 // Judges an image.
 pub fn channel_bench_judge(image: &[u8]) -> u8
     ensures { result ≡ judge image.now }
 {
-    number(netlist::judge(image))
+    number(verdict::judge(image))
 }
 
 // Writes an image's fresh state, or zeros if the image is refused, to the first bytes of `state`; if
@@ -72,12 +45,13 @@ pub fn channel_bench_judge(image: &[u8]) -> u8
 pub fn channel_bench_fresh(image: &[u8], state: &mut [u8]) -> u8
     ensures { FreshCall image.now state.old result state.new }
 {
-    let fresh = as_returned(State::fresh(image));
-    if read::STATE <= state.len() {
-        write::put_state(fresh.state, state);
-        return stop_number(fresh.refusal);
+    match State::fresh(image) {
+        Ok(fresh) => number(encode::put_state(fresh, state)),
+        Err(refused) => {
+            let _ = encode::put_state(refused.state, state);
+            refused.refusal.number()
+        }
     }
-    fresh.refusal.unwrap_or(Refusal::Room).number()
 }
 
 // One cycle with a stall word: `state` is changed in place, and the letters and values of the cycle are
@@ -91,11 +65,8 @@ pub fn channel_bench_step(
 ) -> u8
     ensures { StepCall image.now state.old word letters.old values.old result state.new letters.new values.new }
 {
-    match engine::step(image, read::state_in(state), word, letters, values) {
-        Ok(after) => {
-            write::put_state(after, state);
-            0
-        }
+    match engine::step(image, decode::state_in(state), word, letters, values) {
+        Ok(after) => number(encode::put_state(after, state)),
         Err(refused) => refused.refusal.number(),
     }
 }
@@ -105,11 +76,11 @@ pub fn channel_bench_step(
 pub fn channel_bench_run(image: &[u8], state: &mut [u8], words: &[u64], steps: &mut u32) -> u8
     ensures { RunCall image.now state.old words.now result steps.new state.new }
 {
-    let ran = engine::run(image, read::state_in(state), words);
+    let ran = engine::run(image, decode::state_in(state), words);
     let number = stop_number(ran.stopped);
     *steps = ran.steps;
     if ran.steps != 0 {
-        write::put_state(ran.state, state);
+        let _ = encode::put_state(ran.state, state);
     }
     number
 }
@@ -131,7 +102,7 @@ pub fn channel_bench_header_line(out: &mut [u8], length: &mut usize) -> u8
     if out.len() < line.len() {
         return Refusal::Room.number();
     }
-    *length = text::put_bytes(&line, out, 0);
+    *length = writer::put_bytes(&line, out, 0);
     0
 }
 
@@ -146,11 +117,10 @@ pub fn channel_bench_cycle_line(
     ensures { LineCall image.now state.old word out.old result length.new state.new out.new }
 {
     *length = 0;
-    match tracer::cycle_line(image, read::state_in(state), word, out) {
+    match tracer::cycle_line(image, decode::state_in(state), word, out) {
         Ok(line) => {
             *length = line.length;
-            write::put_state(line.state, state);
-            0
+            number(encode::put_state(line.state, state))
         }
         Err(unwritten) => unwritten.refusal.number(),
     }
@@ -166,7 +136,7 @@ pub fn channel_bench_closing_line(
     ensures { ClosingCall image.now state.now out.old result length.new out.new }
 {
     *length = 0;
-    match tracer::closing_line(image, read::state_in(state), out) {
+    match tracer::closing_line(image, decode::state_in(state), out) {
         Ok(written) => {
             *length = written;
             0
@@ -210,10 +180,10 @@ pub fn channel_bench_station(
     ensures { BenchCall (record_in station.old ∷ []) station.old valid value stop result letter.new shown.new taken.new station.new }
 {
     let link = valid.then_some(value);
-    let benched = bench::steps::station_step(read::record_in(station), link, stop);
+    let benched = bench::steps::station_step(decode::record_in(station), link, stop);
     let number = tell(benched.answer, letter, shown, taken);
     if benched.answer.is_ok() {
-        write::Stations::put(benched.after, station, 0);
+        let _ = encode::put_records(&[benched.after], station);
     }
     number
 }
@@ -230,12 +200,12 @@ pub fn channel_bench_row(
 ) -> u8
     ensures { BenchCall (row_in row.old) row.old valid value stop result letter.new shown.new taken.new row.new }
 {
-    let count = read::record_count(row);
+    let count = decode::record_count(row);
     let link = valid.then_some(value);
-    let benched = bench::steps::row_step(read::row_in(row, count), count, link, stop);
+    let benched = bench::steps::row_step(decode::row_in(row), count, link, stop);
     let number = tell(benched.answer, letter, shown, taken);
     if benched.answer.is_ok() {
-        write::put_row(benched.after, count, row);
+        let _ = encode::put_records(&benched.after.stations[..count], row);
     }
     number
 }

@@ -3,10 +3,10 @@
 #![tactic(auto)]
 
 ghost use Rattle.std.specs.Prelude.{[], ◌∷◌, ◌≡◌, length};
-ghost use Rattle.netlist.specs.Judge.{judge};
+ghost use Rattle.verdict.specs.Judge.{judge};
 ghost use Rattle.strict.specs.Answer.{strict_number, strict_written};
 ghost use Rattle.text.specs.Trace.{header};
-ghost use Rattle.capi.specs.Bytes.{record_in, row_in};
+ghost use Rattle.layout.specs.Bytes.{record_in, row_in};
 ghost use Rattle.capi.specs.Calls.{FreshCall, StepCall, RunCall, LineCall, ClosingCall, TextCall, BenchCall};
 
 // Judges an image.

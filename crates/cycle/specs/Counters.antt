@@ -3,7 +3,7 @@
 -- station again.
 use Rattle.std.specs.Prelude.{false, List, ◌≡◌, ℕ, zero, suc, ◌+◌, ◌<◌, ltb, length, drop}
 use Rattle.laws.specs.Choice.{◌if◌else◌}
-use Rattle.netlist.specs.Image.{channels, from, to, stations, depth}
+use Rattle.image.specs.Image.{channels, from, to, stations, depth}
 use Rattle.relay.specs.Row.{contents}
 use Rattle.state.specs.declared.State.{State}
 use Rattle.state.specs.State.{firings_at, channel_in}

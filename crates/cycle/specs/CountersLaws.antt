@@ -12,8 +12,8 @@ use Rattle.laws.specs.Cases.{lt-or-ge}
 use Rattle.laws.specs.Lists.{holds}
 use Rattle.laws.specs.ListsLaws.{two_count}
 use Rattle.laws.specs.TestsLaws.{leb_shift}
-use Rattle.netlist.specs.Image.{channels, from, to, stations, depth}
-use Rattle.netlist.specs.Accepted.{Accepted}
+use Rattle.image.specs.Image.{channels, from, to, stations, depth}
+use Rattle.verdict.specs.Accepted.{Accepted}
 use Rattle.relay.specs.Link.{passing}
 use Rattle.relay.specs.LinkLaws.{valid_count}
 use Rattle.relay.specs.Row.{stopped, leaving, row_after, contents, link_at}
@@ -25,7 +25,7 @@ use Rattle.state.specs.State.{firings_at, channel_in}
 use Rattle.state.specs.StateLaws.{length-row, source_few}
 use Rattle.cycle.specs.Cycle.{input_at, blocked_at, fires, channel_next, state_after}
 use Rattle.cycle.specs.CycleLaws.{channel-next, firings_next, fires-iff, queue_next_lem}
-use Rattle.state.specs.Fitting.{Steady}
+use Rattle.fitting.specs.Fitting.{Steady}
 use Rattle.cycle.specs.Counters.{entered, limit, Enabled}
 
 -- ---- the counts of one state

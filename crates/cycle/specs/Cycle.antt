@@ -4,7 +4,7 @@ use Rattle.laws.specs.Below.{all_below, any_below}
 use Rattle.laws.specs.Choice.{◌if◌else◌}
 use Rattle.laws.specs.Lists.{holds}
 use Rattle.laws.specs.Table.{table}
-use Rattle.netlist.specs.Image.{channels, from, to, depth}
+use Rattle.image.specs.Image.{channels, from, to, depth}
 use Rattle.node.specs.Node.{next_of}
 use Rattle.relay.specs.Link.{Link}
 use Rattle.relay.specs.declared.Reading.{Reading}

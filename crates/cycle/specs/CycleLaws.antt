@@ -10,8 +10,8 @@ use Rattle.laws.specs.Choice.{◌if◌else◌}
 use Rattle.laws.specs.Lists.{holds, one_if, drop_if}
 use Rattle.laws.specs.ListsLaws.{length_dropped, holds_one}
 use Rattle.laws.specs.TestsLaws.{eq_iff, not_iff, and-iff, nand-iff, if-iff}
-use Rattle.netlist.specs.Image.{nodes, channels, from, to, stations, depth}
-use Rattle.netlist.specs.Accepted.{Accepted}
+use Rattle.image.specs.Image.{nodes, channels, from, to, stations, depth}
+use Rattle.verdict.specs.Accepted.{Accepted}
 use Rattle.node.specs.Node.{next_of}
 use Rattle.relay.specs.Link.{Link, passing}
 use Rattle.relay.specs.LinkLaws.{valid_holds}

@@ -4,8 +4,8 @@ use Rattle.std.proofs.Common.{ap, arith, length-append}
 use Rattle.laws.specs.ChoiceLaws.{one_few}
 use Rattle.laws.specs.Lists.{one_if, drop_if}
 use Rattle.laws.specs.ListsLaws.{length_dropped, length-one_if}
-use Rattle.netlist.specs.Image.{channels, from, to, depth}
-use Rattle.netlist.specs.Accepted.{Accepted}
+use Rattle.image.specs.Image.{channels, from, to, depth}
+use Rattle.verdict.specs.Accepted.{Accepted}
 use Rattle.relay.specs.RowLaws.{row_few}
 use Rattle.shell.specs.Channel.{tokens, arriving, stop_below, channel_after}
 use Rattle.shell.specs.ChannelLaws.{queue_few}
@@ -14,7 +14,7 @@ use Rattle.state.specs.State.{value_at, firings_at, channel_in, state_of}
 use Rattle.state.specs.StateLaws.{source_few, arriving_few, written_of}
 use Rattle.cycle.specs.Cycle.{fires, node_after, channel_next, state_after}
 use Rattle.cycle.specs.CycleLaws.{channel-next, firings_next, fires-holds, tokens-next}
-use Rattle.state.specs.Fitting.{Steady, Fitting}
+use Rattle.fitting.specs.Fitting.{Steady, Fitting}
 
 module _ (img : List ℕ) (a : Accepted img) (w : ℕ) (s : State) where
   -- every cycle keeps what time needs, whatever the cycle count

@@ -5,14 +5,14 @@ use Rattle.laws.specs.Below.{any_below}
 use Rattle.laws.specs.Choice.{◌if◌else◌}
 use Rattle.laws.specs.Lists.{holds, padded}
 use Rattle.laws.specs.Table.{table, table_over}
-use Rattle.netlist.specs.Image.{from, to}
-use Rattle.netlist.specs.Readers.{channel_at}
-use Rattle.netlist.specs.Ports.{ports_below}
+use Rattle.image.specs.Image.{from, to}
+use Rattle.image.specs.Readers.{channel_at}
+use Rattle.image.specs.Ports.{ports_below}
 use Rattle.relay.specs.declared.Station.{Station}
 use Rattle.relay.specs.Station.{station_of}
 use Rattle.shell.specs.declared.Queue.{Queue}
 use Rattle.shell.specs.Queue.{queue_of}
-use Rattle.netlist.specs.declared.Channel.{Channel as Wire}
+use Rattle.image.specs.declared.Channel.{Channel as Wire}
 use Rattle.state.specs.declared.Node.{Node}
 use Rattle.state.specs.declared.State.{State}
 use Rattle.cycle.specs.Cycle.{input_at, blocked_at, fires, node_after, channel_next}

@@ -17,13 +17,13 @@ use Rattle.laws.specs.Lists.{holds, holds_two}
 use Rattle.laws.specs.ListsLaws.{holds_one}
 use Rattle.laws.specs.Table.{table_over}
 use Rattle.laws.specs.TableLaws.{table_at, table_raise, over_skip, over_table, padded-table, padded-at}
-use Rattle.netlist.specs.Image.{nodes, channels, kind, from, to, port, feeds, stations, depth}
-use Rattle.netlist.specs.declared.Channel.{Channel as Wire}
-use Rattle.netlist.specs.Readers.{channel_at}
-use Rattle.netlist.specs.Ports.{ports_below}
-use Rattle.netlist.specs.PortsLaws.{ports_at}
-use Rattle.netlist.specs.Accepted.{Accepted}
-use Rattle.netlist.specs.AcceptedLaws.{accepted-wired}
+use Rattle.image.specs.Image.{nodes, channels, kind, from, to, port, feeds, stations, depth}
+use Rattle.image.specs.declared.Channel.{Channel as Wire}
+use Rattle.image.specs.Readers.{channel_at}
+use Rattle.image.specs.Ports.{ports_below}
+use Rattle.image.specs.PortsLaws.{ports_at}
+use Rattle.verdict.specs.Accepted.{Accepted}
+use Rattle.verdict.specs.AcceptedLaws.{accepted-wired}
 use Rattle.pearl.specs.Next.{next_value}
 use Rattle.node.specs.Node.{port_value, next_of}
 use Rattle.relay.specs.Link.{Link, token, link_of, passing}
@@ -41,8 +41,8 @@ use Rattle.state.specs.State.{no_node, node_at, value_at, mark_at, station_at, q
 use Rattle.state.specs.StateLaws.{place_channel, place_station, length-row, row_at, row_past, arriving_few}
 use Rattle.cycle.specs.Cycle.{stalled, input_at, blocked_at, all_ready, any_blocked, fires, node_after, channel_next, state_after}
 use Rattle.cycle.specs.CycleLaws.{length-next, source_next}
-use Rattle.state.specs.Fitting.{Fitting}
-use Rattle.state.specs.FittingLaws.{stations_long, station_written, queue_written}
+use Rattle.fitting.specs.Fitting.{Fitting}
+use Rattle.fitting.specs.FittingLaws.{stations_long, station_written, queue_written}
 use Rattle.cycle.specs.Parts.{no_wire, wires_below, starved_below, brought_below, blocked_below}
 use Rattle.cycle.specs.Parts.{nodes_below, mark_next, station_next, queue_next, moved_below}
 

@@ -16,10 +16,10 @@ use Rattle.laws.specs.Choice.{◌if◌else◌}
 use Rattle.laws.specs.Lists.{holds_two}
 use Rattle.laws.specs.Table.{table_over}
 use Rattle.laws.specs.TableLaws.{over_set, over_at, over_same_at}
-use Rattle.netlist.specs.declared.Channel.{Channel as Wire}
-use Rattle.netlist.specs.Image.{nodes, channels, from, to, stations, depth}
-use Rattle.netlist.specs.Accepted.{Accepted}
-use Rattle.netlist.specs.Readers.{channel_at}
+use Rattle.image.specs.declared.Channel.{Channel as Wire}
+use Rattle.image.specs.Image.{nodes, channels, from, to, stations, depth}
+use Rattle.verdict.specs.Accepted.{Accepted}
+use Rattle.image.specs.Readers.{channel_at}
 use Rattle.relay.specs.declared.Station.{Station}
 use Rattle.relay.specs.Link.{Link, token, link_of, passing, reading}
 use Rattle.relay.specs.LinkLaws.{reading-token}
@@ -38,8 +38,8 @@ use Rattle.state.specs.declared.Node.{Node}
 use Rattle.state.specs.declared.State.{State}
 use Rattle.state.specs.State.{no_node, no_queue, node_at, mark_at, station_at, queue_at, channel_in}
 use Rattle.cycle.specs.Cycle.{stalled, input_at, blocked_at, seen_at, fires, node_after, state_after, after}
-use Rattle.state.specs.Fitting.{Fitting}
-use Rattle.state.specs.FittingLaws.{nodes_long, pending_long, stations_long, queues_long, queue_count}
+use Rattle.fitting.specs.Fitting.{Fitting}
+use Rattle.fitting.specs.FittingLaws.{nodes_long, pending_long, stations_long, queues_long, queue_count}
 use Rattle.cycle.specs.Parts.{starved_below, brought_below, blocked_below, fires_below, nodes_below}
 use Rattle.cycle.specs.Parts.{station_next, queue_next, mark_next, moved_below}
 use Rattle.cycle.specs.PartsLaws.{link_in, stop_in, link_source, link_above, link_last, stop_inside, stop_last, input-at, blocked-at}

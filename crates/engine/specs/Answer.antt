@@ -1,14 +1,14 @@
 -- What a step and a run answer, and what a step leaves in the arrays that it is lent.
 use Rattle.std.specs.Prelude.{Bool, not, ◌||◌, List, [], ◌∷◌, ◌++◌, ℕ, suc, ◌/◌, ◌^◌, eqb, ltb, ℤ, length, drop}
 use Rattle.laws.specs.Choice.{◌if◌else◌}
-use Rattle.netlist.specs.Image.{nodes, channels}
-use Rattle.netlist.specs.Judge.{judge}
+use Rattle.image.specs.Image.{nodes, channels}
+use Rattle.verdict.specs.Judge.{judge}
 use Rattle.engine.specs.declared.Ran.{Ran}
 use Rattle.refusal.specs.Number.{number_if}
 use Rattle.state.specs.declared.State.{State}
 use Rattle.state.specs.Told.{Told}
 use Rattle.cycle.specs.Cycle.{state_after, letters_of, values_of}
-use Rattle.state.specs.Fits.{fits}
+use Rattle.fitting.specs.Fits.{fits}
 
 -- 12: "stall word sets a bit at or above N": these bits are not all 0
 unfoldable pub sets_above : ℕ → ℕ → Bool

@@ -4,6 +4,7 @@ use Rattle.std.proofs.Math.Bool.{true, false, not, true≢false}
 use Rattle.std.proofs.Math.Path.{◌≡◌, refl, sym}
 use Rattle.std.proofs.Common.{ap, ◌∙◌, add-zero, zero-add, drop_of_length-le, drop-cons}
 use Prim.Native.Nat.{ℕ, zero, suc, ◌+◌, ◌<◌, ◌≤◌}
+use Rattle.std.proofs.Math.Decide.{ℕ_discrete}
 use Rattle.std.proofs.Math.Numerals.{add-one}
 use native.Mathlib.Omega.{arith}
 use borrow.Author.Tests.{eq-eqb, ne_eqb, ltb-false, not-false}
@@ -11,12 +12,12 @@ use Rattle.std.proofs.Math.Dec.{ltb}
 use Rattle.laws.specs.Cases.{or_left, or_right}
 use Rattle.laws.specs.Choice.{◌if◌else◌}
 use Rattle.laws.specs.ChoiceLaws.{past, past_number}
-use Rattle.netlist.specs.Image.{nodes, channels}
-use Rattle.netlist.specs.Judge.{judge}
+use Rattle.image.specs.Image.{nodes, channels}
+use Rattle.verdict.specs.Judge.{judge}
 use Rattle.state.specs.declared.State.{State}
 use Rattle.state.specs.State.{state_of}
 use Rattle.cycle.specs.Cycle.{state_after, after, letters_of, values_of}
-use Rattle.state.specs.Fits.{fits}
+use Rattle.fitting.specs.Fits.{fits}
 use Rattle.engine.specs.Taken.{state_number, TakenTold, take_more, taken_from, taken_after}
 use Rattle.engine.specs.Answer.{sets_above, step_number, step_of, step_answer, letters_written, values_written, RunTold, step_more, ran_from, run_answer}
 
@@ -207,3 +208,15 @@ module _ (img : List ℕ) (s : State) (words : List ℕ) where
   pub run-made : state_number img s ≡ 0 → ran_from img s words ≡ run_answer img s words
   unfolding run_answer
   run-made e = let r = state_ok img s e in rw (r.0, r.1)
+
+  -- a run that makes no step leaves the state
+  pub run_still : (run_answer img s words).steps ≡ 0 → (run_answer img s words).state ≡ s
+  unfolding after
+  run_still z = at (ℕ_discrete (state_number img s) 0)
+    where
+      at : Dec (state_number img s ≡ 0) → (run_answer img s words).state ≡ s
+      at (no n) = sym (ap (λ (a : RunTold). a.state) (run_none n))
+      at (yes e) =
+          let r = ran_taken img words s ∙ run-made e in
+          let k : (taken_from (nodes img) s.cycles words).steps ≡ 0 = ap (λ (a : RunTold). a.steps) r ∙ z in
+          sym (ap (λ (a : RunTold). a.state) r) ∙ rw k

@@ -2,6 +2,5 @@
 pub mod Answer
 pub mod AnswerLaws
 pub mod Done
-pub mod Examples
 -- what the code finds out before it makes a cycle
 pub mod Taken

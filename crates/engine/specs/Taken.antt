@@ -1,11 +1,11 @@
 -- What a step and a run find out before they make a cycle: whether image and state are refused, and which of a run's words are taken.
 use Rattle.std.specs.Prelude.{not, List, [], ◌∷◌, ℕ, suc, ◌+◌, eqb, drop}
 use Rattle.laws.specs.Choice.{◌if◌else◌}
-use Rattle.netlist.specs.Judge.{judge}
+use Rattle.verdict.specs.Judge.{judge}
 use Rattle.refusal.specs.Number.{number_if}
 use Rattle.state.specs.declared.State.{State}
 use Rattle.engine.specs.declared.Taken.{Taken}
-use Rattle.state.specs.Fits.{fits}
+use Rattle.fitting.specs.Fits.{fits}
 use Rattle.engine.specs.Answer.{sets_above}
 
 -- the image's number, then 21

@@ -4,7 +4,7 @@
 ghost use Rattle.std.specs.Prelude.{◌≡◌, ◌≤◌, IfOk};
 ghost use Rattle.refusal.specs.Number.{number_of};
 ghost use Rattle.state.specs.Told.{told};
-ghost use Rattle.state.specs.Fitting.{Fitting};
+ghost use Rattle.fitting.specs.Fitting.{Fitting};
 ghost use Rattle.engine.specs.Answer.{sets_above, step_number, run_told};
 ghost use Rattle.engine.specs.Taken.{state_number, taken_told, taken_from};
 ghost use Rattle.engine.specs.Done.{StepDone, RunDone};
@@ -46,7 +46,7 @@ pub fn fitted<'a>(image: &'a [u8], state: State) -> Result<Netlist<'a>, Refusal>
     ensures fitting { IfOk result (λ netlist. Fitting netlist.image.now state) }
 {
     let netlist = Netlist::judged(image)?;
-    if !state.fits(netlist) {
+    if !fitting::fits(netlist, &state) {
         return Err(Refusal::Misfit);
     }
     Ok(netlist)
@@ -123,8 +123,8 @@ pub fn step(
     let netlist = admitted(image, state, word, letters.len(), values.len()).map_err(
         |refusal| Refused { state, refusal },
     )?;
-    cycle::show(netlist, state, letters, values);
-    Ok(cycle::cycles(netlist, state, &[word]))
+    readings::show(netlist, state, letters, values);
+    Ok(clock::cycles(netlist, state, &[word]))
 }
 
 // A cycle for each of the words, in order, up to the first that is refused. It answers how many it
@@ -144,7 +144,7 @@ pub fn run(image: &[u8], state: State, words: &[u64]) -> Ran
         }
     };
     let taken = words_taken(netlist.nodes(), state.cycles, words);
-    let last = cycle::cycles(netlist, state, &words[..taken.steps]);
+    let last = clock::cycles(netlist, state, &words[..taken.steps]);
     Ran {
         steps: taken.steps as u32,
         state: last,

@@ -1,13 +1,13 @@
 // Judges the image on standard input: prints `accepted`, or `refused` and the number.
 //
-// No image is longer than 802 bytes, so the first 803 decide (`netlist`'s specs/Head.antt); what
+// No image is longer than 802 bytes, so the first 803 decide (`verdict`'s specs/Head.antt); what
 // follows is read to its end all the same. Where the input cannot be read, no verdict is printed.
 #![tactic(auto)]
 
 use std::io;
 
 fn judge(rt: &impl Print, image: &[u8]) -> io::Result<()> {
-    match netlist::judge(image) {
+    match verdict::judge(image) {
         Ok(()) => println!(rt; "accepted"),
         Err(refusal) => println!(rt; "{refusal}"),
     }

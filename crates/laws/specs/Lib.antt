@@ -16,4 +16,3 @@ pub mod Stretch
 pub mod StretchLaws
 pub mod Signed
 pub mod SignedLaws
-pub mod Examples

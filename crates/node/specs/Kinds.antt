@@ -1,6 +1,6 @@
 -- The kinds of an image's nodes, as they are read into an array of 64.
 use Rattle.std.specs.Prelude.{List, ◌≡◌, ℕ, ◌<◌, ◌≤◌, get_or, length}
-use Rattle.netlist.specs.Image.{kind}
+use Rattle.image.specs.Image.{kind}
 use Rattle.pearl.specs.declared.Kind.{Kind}
 use Rattle.pearl.specs.declared.Kind.TheVariants.{Count}
 use Rattle.pearl.specs.Kind.{code}

@@ -4,7 +4,7 @@ use Rattle.std.proofs.Common.{⊎_elim, arith, get_or-set_same, get_or-set_other
 use Rattle.std.proofs.Math.ListN.{length-set}
 use Rattle.laws.specs.Cases.{below_suc}
 use Rattle.laws.specs.ListsLaws.{replicate_rest}
-use Rattle.netlist.specs.Image.{kind}
+use Rattle.image.specs.Image.{kind}
 use Rattle.pearl.specs.declared.Kind.{Kind}
 use Rattle.pearl.specs.declared.Kind.TheVariants.{Count}
 use Rattle.pearl.specs.Kind.{code}

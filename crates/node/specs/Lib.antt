@@ -3,4 +3,3 @@ pub mod Kinds
 pub mod KindsLaws
 pub mod Node
 pub mod NodeLaws
-pub mod Examples

@@ -2,7 +2,7 @@
 -- brings and in when a node fires; this they share.
 use Rattle.std.specs.Prelude.{List, ℕ, ℤ, pos}
 use Rattle.laws.specs.Below.{pick_below}
-use Rattle.netlist.specs.Image.{channels, kind, feeds}
+use Rattle.image.specs.Image.{channels, kind, feeds}
 use Rattle.pearl.specs.Next.{next_value}
 
 -- the value on port p of node n, where channel c brings `brings c`: what the channel that feeds the port brings, 0 on a port that none feeds

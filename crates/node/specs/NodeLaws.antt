@@ -3,10 +3,10 @@ use Rattle.std.specs.Prelude.{List, ◌≡◌, refl, ℕ, ◌<◌, ℤ, pos}
 use Rattle.std.proofs.Common.{ap, ◌∙◌}
 use Rattle.laws.specs.Below.{pick_below}
 use Rattle.laws.specs.BelowLaws.{pick_same, pick_only}
-use Rattle.netlist.specs.Image.{nodes, channels, to, port, feeds}
-use Rattle.netlist.specs.Accepted.{Accepted}
-use Rattle.netlist.specs.Alike.{Alike}
-use Rattle.netlist.specs.PortsLaws.{feeds_ok}
+use Rattle.image.specs.Image.{nodes, channels, to, port, feeds}
+use Rattle.verdict.specs.Accepted.{Accepted}
+use Rattle.image.specs.Alike.{Alike}
+use Rattle.image.specs.PortsLaws.{feeds_ok}
 use Rattle.node.specs.Node.{port_value, next_of}
 
 -- "Each input port is fed by exactly one channel": what that channel brings is on the port

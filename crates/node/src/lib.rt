@@ -2,7 +2,7 @@
 // strict run and the cycle engine share, stands under specs/.
 #![tactic(auto)]
 
-ghost use Rattle.netlist.specs.Image.{nodes};
+ghost use Rattle.image.specs.Image.{nodes};
 ghost use Rattle.node.specs.Kinds.{KindsBelow};
 
 use netlist::Netlist;

@@ -5,4 +5,3 @@ pub mod Wrap
 pub mod WrapLaws
 pub mod Next
 pub mod NextLaws
-pub mod Examples

@@ -7,4 +7,3 @@ pub mod Row
 pub mod RowLaws
 pub mod RowCycle
 pub mod RowCycleLaws
-pub mod Examples

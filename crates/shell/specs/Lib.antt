@@ -3,4 +3,3 @@ pub mod Queue
 pub mod QueueLaws
 pub mod Channel
 pub mod ChannelLaws
-pub mod Examples

@@ -4,7 +4,7 @@ use Rattle.laws.specs.Below.{all_below, any_below, pick_below}
 use Rattle.laws.specs.Signed.{signed}
 use Rattle.laws.specs.Lists.{padded}
 use Rattle.laws.specs.Table.{table}
-use Rattle.netlist.specs.Image.{nodes, channels, kind, parameter}
+use Rattle.image.specs.Image.{nodes, channels, kind, parameter}
 use Rattle.pearl.specs.Wrap.{wrap}
 use Rattle.pearl.specs.Next.{halve, larger, choose, exact, next_value}
 use Rattle.node.specs.Node.{port_value, next_of}

@@ -1,8 +1,8 @@
 -- The fresh state, and what a call for it answers.
 use Rattle.std.specs.Prelude.{List, [], ◌∷◌, ◌≡◌, ℕ, eqb, replicate}
 use Rattle.laws.specs.Choice.{◌if◌else◌}
-use Rattle.netlist.specs.Image.{parameter, from, stations}
-use Rattle.netlist.specs.Judge.{judge}
+use Rattle.image.specs.Image.{parameter, from, stations}
+use Rattle.verdict.specs.Judge.{judge}
 use Rattle.relay.specs.Station.{station_of}
 use Rattle.shell.specs.Queue.{queue_of}
 use Rattle.state.specs.Told.{Told}

@@ -7,9 +7,9 @@ use Rattle.laws.specs.Lists.{padded}
 use Rattle.laws.specs.ListsLaws.{replicate_rest}
 use Rattle.laws.specs.Table.{table}
 use Rattle.laws.specs.TableLaws.{padded-table, padded_same}
-use Rattle.netlist.specs.Image.{nodes, channels, parameter, from, stations}
-use Rattle.netlist.specs.Accepted.{Accepted}
-use Rattle.netlist.specs.Judge.{judge}
+use Rattle.image.specs.Image.{nodes, channels, parameter, from, stations}
+use Rattle.verdict.specs.Accepted.{Accepted}
+use Rattle.verdict.specs.Judge.{judge}
 use Rattle.relay.specs.declared.Station.{Station}
 use Rattle.relay.specs.Station.{station_of}
 use Rattle.relay.specs.Row.{contents}

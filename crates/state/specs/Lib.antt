@@ -5,12 +5,3 @@ pub mod StateLaws
 pub mod Told
 pub mod Fresh
 pub mod FreshLaws
-pub mod Fits
--- a state that fits, as facts
-pub mod Fitting
-pub mod Places
-pub mod FitsLaws
-pub mod FittingLaws
--- what the code's loops hold
-pub mod FitsPasses
-pub mod FitsPassesLaws

@@ -3,7 +3,7 @@ use Rattle.std.specs.Prelude.{List, [], ℕ, ◌+◌, ◌*◌, ◌/◌, ◌%◌,
 use Rattle.laws.specs.Choice.{◌if◌else◌}
 use Rattle.laws.specs.Lists.{holds, one_if, padded}
 use Rattle.laws.specs.Table.{table}
-use Rattle.netlist.specs.Image.{nodes, channels, from, stations}
+use Rattle.image.specs.Image.{nodes, channels, from, stations}
 use Rattle.relay.specs.declared.Station.{Station}
 use Rattle.relay.specs.Station.{held, station_of}
 use Rattle.relay.specs.RowCycle.{no_station}

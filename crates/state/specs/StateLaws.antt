@@ -10,7 +10,7 @@ use Rattle.laws.specs.Lists.{holds, one_if}
 use Rattle.laws.specs.ListsLaws.{one_if_few}
 use Rattle.laws.specs.Table.{table}
 use Rattle.laws.specs.TableLaws.{length-table, table_at, table_same, table_own, padded-at}
-use Rattle.netlist.specs.Image.{nodes, channels, from, stations}
+use Rattle.image.specs.Image.{nodes, channels, from, stations}
 use Rattle.relay.specs.declared.Station.{Station}
 use Rattle.relay.specs.Station.{held, station_of}
 use Rattle.relay.specs.StationLaws.{held_of}

@@ -1,13 +1,8 @@
-// The state of a netlist between two cycles: the fresh one, and whether a state fits its image.
+// The state of a netlist between two cycles, and the fresh one.
 #![tactic(auto)]
 
 mod initial;
-mod passes;
 
-ghost use Rattle.std.specs.Prelude.{◌≡◌};
-ghost use Rattle.state.specs.Fits.{fits};
-
-use netlist::Netlist;
 use refusal::Refusal;
 use relay::Station;
 use shell::Queue;
@@ -38,16 +33,4 @@ pub struct State {
 pub struct Refused {
     pub state: State,
     pub refusal: Refusal,
-}
-
-impl State {
-    // Whether a state fits an accepted image.
-    pub fn fits(&self, netlist: Netlist) -> bool
-        ensures { result ≡ fits netlist.entry.image.now self.now }
-    {
-        let nodes = passes::nodes_fit(netlist, self);
-        let channels = passes::channels_fit(netlist, self);
-        let unused = passes::channels_clear(netlist, self);
-        (((self.cycles <= State::CYCLES) & nodes) & channels) & unused
-    }
 }

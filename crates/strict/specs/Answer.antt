@@ -1,8 +1,8 @@
 -- What the strict run answers: "writes all N values of a cycle t, 0 to 1,000,000, to a lent array and touches nothing beyond its first N."
 use Rattle.std.specs.Prelude.{not, List, ◌++◌, ℕ, eqb, ltb, ℤ, length, drop}
 use Rattle.laws.specs.Choice.{◌if◌else◌}
-use Rattle.netlist.specs.Image.{nodes}
-use Rattle.netlist.specs.Judge.{judge}
+use Rattle.image.specs.Image.{nodes}
+use Rattle.verdict.specs.Judge.{judge}
 use Rattle.strict.specs.Strict.{strict_cycle}
 
 -- its number, where the lent array has `room` places: "1 to 11 rising, each over the whole image; then .. 14, 13"

@@ -1,7 +1,7 @@
 -- What the strict run has written. Assumes nothing.
 use Rattle.std.specs.Prelude.{List, ◌++◌, ◌≡◌, ℕ, ℤ, length, drop}
 use borrow.Author.Tests.{ne_eqb, eq-eqb}
-use Rattle.netlist.specs.Image.{nodes}
+use Rattle.image.specs.Image.{nodes}
 use Rattle.strict.specs.Strict.{strict_cycle}
 use Rattle.strict.specs.Answer.{strict_number, strict_written}
 

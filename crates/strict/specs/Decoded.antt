@@ -1,8 +1,8 @@
 -- What the code decodes of an image, once: the node that feeds each port.
 use Rattle.std.specs.Prelude.{List, ℕ, ◌<◌, ℤ, pos, get_or}
 use Rattle.laws.specs.Lists.{padded}
-use Rattle.netlist.specs.Image.{from}
-use Rattle.netlist.specs.Ports.{ports_below}
+use Rattle.image.specs.Image.{from}
+use Rattle.image.specs.Ports.{ports_below}
 use Rattle.strict.specs.Strict.{strict_cycle}
 
 -- the node that feeds each port, by the channels below c; a port that none feeds has 64, a place where the value is always 0

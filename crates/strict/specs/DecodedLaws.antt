@@ -9,11 +9,11 @@ use Rattle.laws.specs.BelowLaws.{pick_one, pick_map}
 use Rattle.laws.specs.ListsLaws.{get_or-padded, take-padded}
 use Rattle.laws.specs.Table.{table_over}
 use Rattle.laws.specs.TableLaws.{get_d_any, over_padded, over_same}
-use Rattle.netlist.specs.Image.{nodes, channels, from, feeds}
-use Rattle.netlist.specs.Accepted.{Accepted}
-use Rattle.netlist.specs.AcceptedLaws.{accepted-wired}
-use Rattle.netlist.specs.Ports.{port_place, ports_below}
-use Rattle.netlist.specs.PortsLaws.{ports_length, ports_at}
+use Rattle.image.specs.Image.{nodes, channels, from, feeds}
+use Rattle.verdict.specs.Accepted.{Accepted}
+use Rattle.verdict.specs.AcceptedLaws.{accepted-wired}
+use Rattle.image.specs.Ports.{port_place, ports_below}
+use Rattle.image.specs.PortsLaws.{ports_length, ports_at}
 use Rattle.node.specs.Node.{port_value, next_of}
 use Rattle.strict.specs.Strict.{strict_next, strict_cycle}
 use Rattle.strict.specs.StrictLaws.{length_cycle}

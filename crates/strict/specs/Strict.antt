@@ -1,7 +1,7 @@
 -- The strict system: every node takes its next value in every cycle, from the values that the nodes feeding it have in that cycle.
 use Rattle.std.specs.Prelude.{List, ℕ, zero, suc, ℤ, pos, get_or}
 use Rattle.laws.specs.Table.{table}
-use Rattle.netlist.specs.Image.{nodes, parameter, from}
+use Rattle.image.specs.Image.{nodes, parameter, from}
 use Rattle.node.specs.Node.{next_of}
 
 -- node n's "next value from all values of cycle t", which are `values`: a channel brings its from node's

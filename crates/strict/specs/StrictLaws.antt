@@ -2,9 +2,9 @@
 use Rattle.std.specs.Prelude.{List, ◌≡◌, ℕ, zero, suc, ◌<◌, pos, length, get_or}
 use Rattle.std.proofs.Common.{ap}
 use Rattle.laws.specs.TableLaws.{length-table, table_at, table_same}
-use Rattle.netlist.specs.Image.{nodes, parameter, from}
-use Rattle.netlist.specs.Alike.{SameButDepths, Alike}
-use Rattle.netlist.specs.AlikeLaws.{bytes_alike}
+use Rattle.image.specs.Image.{nodes, parameter, from}
+use Rattle.image.specs.Alike.{SameButDepths, Alike}
+use Rattle.image.specs.AlikeLaws.{bytes_alike}
 use Rattle.node.specs.Node.{next_of}
 use Rattle.node.specs.NodeLaws.{next_same}
 use Rattle.strict.specs.Strict.{strict_next, strict_cycle, strict}

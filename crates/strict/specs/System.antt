@@ -1,7 +1,7 @@
 -- A cycle of what the code decodes of an image.
 use Rattle.std.specs.Prelude.{List, ◌≡◌, ℕ, ◌+◌, ◌*◌, ℤ, pos, get_or}
 use Rattle.laws.specs.Table.{table_over}
-use Rattle.netlist.specs.Image.{nodes, channels}
+use Rattle.image.specs.Image.{nodes, channels}
 use Rattle.pearl.specs.declared.Kind.TheVariants.{Count}
 use Rattle.pearl.specs.Kind.{code}
 use Rattle.pearl.specs.Next.{next_value}

@@ -3,7 +3,7 @@
 
 ghost use Rattle.std.specs.Prelude.{◌≡◌, ◌<◌, ◌≤◌, length, IfOk, OnOk};
 ghost use Rattle.refusal.specs.Number.{number_of};
-ghost use Rattle.netlist.specs.Image.{nodes, channels};
+ghost use Rattle.image.specs.Image.{nodes, channels};
 ghost use Rattle.strict.specs.Answer.{strict_number, strict_written};
 ghost use Rattle.strict.specs.Decoded.{NamesPlaces, feeders_below, port_on, values_at};
 
@@ -79,7 +79,7 @@ impl System {
 }
 
 // The node that feeds each port, written at the place that each channel names.
-#[tactic(auto, unfolding(crate::specs::Decoded::feeders_below, netlist::specs::Ports::ports_below, netlist::specs::Readers::channel_at))]
+#[tactic(auto, unfolding(crate::specs::Decoded::feeders_below, image::specs::Ports::ports_below, image::specs::Readers::channel_at))]
 fn feeders_of(netlist: Netlist) -> [u8; 192]
     ensures { result ≡ feeders_below netlist.entry.image.now (channels netlist.entry.image.now) }
 {
@@ -92,7 +92,7 @@ fn feeders_of(netlist: Netlist) -> [u8; 192]
 }
 
 // The values of cycle 0: all parameters. By index, since the netlist is asked for each node by its number.
-#[tactic(auto, using(laws::specs::TableLaws::padded_next), unfolding(crate::specs::Decoded::values_at, crate::specs::Strict::strict_cycle, laws::specs::Table::table, laws::specs::Lists::padded, netlist::specs::Readers::core_at))]
+#[tactic(auto, using(laws::specs::TableLaws::padded_next), unfolding(crate::specs::Decoded::values_at, crate::specs::Strict::strict_cycle, laws::specs::Table::table, laws::specs::Lists::padded, image::specs::Readers::core_at))]
 fn first(netlist: Netlist) -> [i32; 65]
     ensures { result ≡ values_at netlist.entry.image.now 0 }
 {
@@ -104,7 +104,7 @@ fn first(netlist: Netlist) -> [i32; 65]
 }
 
 // The values of a cycle.
-#[tactic(auto, using(netlist::specs::AcceptedLaws::accepted, crate::specs::DecodedLaws::values_next))]
+#[tactic(auto, using(verdict::specs::AcceptedLaws::accepted, crate::specs::DecodedLaws::values_next))]
 fn reached(netlist: Netlist, cycle: u32) -> [i32; 65]
     ensures { result ≡ values_at netlist.entry.image.now cycle }
 {

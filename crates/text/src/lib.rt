@@ -12,25 +12,13 @@ ghost use Rattle.refusal.specs.Number.{number_of};
 ghost use Rattle.text.specs.Ascii.{ascii};
 ghost use Rattle.text.specs.Decimal.{decimal, signed_text};
 ghost use Rattle.text.specs.Lines.{shows_value, state_text, line_text, count_text, word_text, closing_text, refused_text};
-ghost use Rattle.text.specs.Put.{Put};
 ghost use Rattle.text.specs.Trace.{header};
-ghost use Rattle.text.specs.Write.{WriteDone};
+ghost use Rattle.writer.specs.Write.{WriteDone};
+ghost use Rattle.writer.specs.Put.{Put};
 
 use refusal::Refusal;
 use relay::Reading;
-
-// ---- parts of a text. Each is stored from a place on; the answer is the place after it. A struct of the
-// slice and the place would be no plainer: each contract names a text of its own, the bytes and the place
-// before and after, and would take them out of the struct again.
-
-// A way to write items of a type.
-pub trait Text<T: Copy> {
-    ghost text: { T → List ℕ };
-
-    fn put(item: T, out: &mut [u8], at: usize) -> usize
-        requires { at + length (text item) ≤ length out.old }
-        ensures { Put (text item) at out.old out.new result };
-}
+use writer::{Text, put_all, put_bytes};
 
 // One that tells how many bytes an item takes.
 trait Measured<T: Copy>: Text<T> {
@@ -38,18 +26,6 @@ trait Measured<T: Copy>: Text<T> {
 
     fn size(item: T) -> usize
         ensures { (result ≡ length (Self.text item)) × (result ≤ longest) };
-}
-
-// Items one after another.
-pub fn put_all<F: Text<T>, T: Copy>(items: &[T], out: &mut [u8], at: usize) -> usize
-    requires { at + length (flat_map F.text items.now) ≤ length out.old }
-    ensures { Put (flat_map F.text items.now) at out.old out.new result }
-{
-    let mut end = at;
-    for item in items {
-        end = F::put(*item, out, end);
-    }
-    end
 }
 
 // What items leave of a room, 0 where it does not suffice.
@@ -62,16 +38,6 @@ fn room_after<F: Measured<T>, T: Copy>(room: usize, items: &[T]) -> usize
         left = left.saturating_sub(F::size(*item));
     }
     left
-}
-
-// Any bytes.
-pub fn put_bytes(text: &[u8], out: &mut [u8], at: usize) -> usize
-    requires { at + length text.now ≤ length out.old }
-    ensures { Put text.now at out.old out.new result }
-{
-    let end = at + text.len();
-    out[at..end].copy_from_slice(text);
-    end
 }
 
 #[tactic(auto, using(crate::specs::DecimalLaws::digits_decimal))]
@@ -93,7 +59,7 @@ fn digits(n: u64) -> usize
 
 // A value with its sign: `io::decimal` is for numbers from 0 on, and the library's writers of signed numbers
 // speak of another definition of decimals.
-#[tactic(auto, using(crate::specs::PutLaws::put_steps, crate::specs::DecimalLaws::signed_minus, crate::specs::DecimalLaws::signed_plain))]
+#[tactic(auto, using(writer::specs::PutLaws::put_steps, crate::specs::DecimalLaws::signed_minus, crate::specs::DecimalLaws::signed_plain))]
 fn put_signed(value: i32, out: &mut [u8], at: usize) -> usize
     requires { at + length (signed_text value) ≤ length out.old }
     ensures { Put (signed_text value) at out.old out.new result }
@@ -128,7 +94,7 @@ struct States;
 impl Text<Reading> for States {
     ghost text = { state_text };
 
-    #[tactic(auto, using(crate::specs::PutLaws::put_steps), unfolding(crate::specs::Lines::state_text))]
+    #[tactic(auto, using(writer::specs::PutLaws::put_steps), unfolding(crate::specs::Lines::state_text))]
     fn put(item: Reading, out: &mut [u8], at: usize) -> usize {
         out[at] = b' ';
         out[at + 1] = item.letter;
@@ -157,7 +123,7 @@ struct Counts;
 impl Text<u32> for Counts {
     ghost text = { count_text };
 
-    #[tactic(auto, using(crate::specs::PutLaws::put_steps), unfolding(crate::specs::Lines::count_text))]
+    #[tactic(auto, using(writer::specs::PutLaws::put_steps), unfolding(crate::specs::Lines::count_text))]
     fn put(item: u32, out: &mut [u8], at: usize) -> usize {
         out[at] = b' ';
         put_decimal(item as u64, out, at + 1)

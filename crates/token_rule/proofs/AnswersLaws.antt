@@ -7,15 +7,15 @@ use Rattle.std.proofs.Math.Dec.{eqb, eqb-zero-suc, eqb-suc-suc}
 use Rattle.laws.specs.Cases.{lt-or-ge}
 use Rattle.laws.specs.Choice.{◌if◌else◌}
 use Rattle.laws.specs.TestsLaws.{ltb_leb}
-use Rattle.netlist.specs.Image.{nodes, channels}
-use Rattle.netlist.specs.Accepted.{Accepted}
-use Rattle.netlist.specs.AcceptedLaws.{accepts}
+use Rattle.image.specs.Image.{nodes, channels}
+use Rattle.verdict.specs.Accepted.{Accepted}
+use Rattle.verdict.specs.AcceptedLaws.{accepts}
 use Rattle.state.specs.declared.State.{State}
 use Rattle.state.specs.Told.{Told}
 use Rattle.cycle.specs.Cycle.{state_after, letters_of, values_of, after}
 use Rattle.cycle.specs.CycleLaws.{cycles-next}
-use Rattle.state.specs.Fitting.{Fitting}
-use Rattle.state.specs.FitsLaws.{fits-fitting}
+use Rattle.fitting.specs.Fitting.{Fitting}
+use Rattle.fitting.specs.FitsLaws.{fits-fitting}
 use Rattle.engine.specs.Answer.{sets_above, step_number, step_of, step_answer, letters_written, values_written, RunTold, step_more, ran_from, run_answer}
 use Rattle.token_rule.specs.Calls.{Step, Run, step, run, Done, goes, roomy, makes, run_cycles}
 

@@ -8,8 +8,8 @@ use Rattle.laws.specs.Lists.{one_if}
 use Rattle.laws.specs.Stretch.{Stretch}
 use Rattle.laws.specs.StretchLaws.{stretch-append, stretch-first, stretch_second, stretch-table}
 use Rattle.laws.specs.Table.{table}
-use Rattle.netlist.specs.Image.{channels, to, depth}
-use Rattle.netlist.specs.Accepted.{Accepted}
+use Rattle.image.specs.Image.{channels, to, depth}
+use Rattle.verdict.specs.Accepted.{Accepted}
 use Rattle.strict.specs.Strict.{stream}
 use Rattle.relay.specs.Link.{passing}
 use Rattle.relay.specs.LinkLaws.{letter-passing}
@@ -23,8 +23,8 @@ use Rattle.state.specs.Fresh.{fresh_state}
 use Rattle.state.specs.FreshLaws.{fresh_firings, fresh-channel}
 use Rattle.cycle.specs.Cycle.{seen_at, state_after}
 use Rattle.cycle.specs.CycleLaws.{firings_next, queue_next_lem}
-use Rattle.state.specs.Fitting.{Steady}
-use Rattle.state.specs.FittingLaws.{fitting-fresh}
+use Rattle.fitting.specs.Fitting.{Steady}
+use Rattle.fitting.specs.FittingLaws.{fitting-fresh}
 use Rattle.cycle.specs.KeptLaws.{steady-next}
 use Rattle.token_rule.specs.Safety.{Sound}
 use Rattle.token_rule.specs.SafetyLaws.{sound-fresh, sound-next}

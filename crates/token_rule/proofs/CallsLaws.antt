@@ -8,11 +8,11 @@ use Rattle.std.proofs.Common.{◌∙◌, zero-add, arith, ltb-true, length-appen
 use Rattle.std.proofs.Math.ListN.{length}
 use Rattle.laws.specs.Choice.{◌if◌else◌}
 use Rattle.laws.specs.Lists.{one_if}
-use Rattle.netlist.specs.Image.{nodes}
-use Rattle.netlist.specs.Accepted.{Accepted}
+use Rattle.image.specs.Image.{nodes}
+use Rattle.verdict.specs.Accepted.{Accepted}
 use Rattle.state.specs.declared.State.{State}
 use Rattle.cycle.specs.Cycle.{state_after, after}
-use Rattle.state.specs.Fitting.{Fitting}
+use Rattle.fitting.specs.Fitting.{Fitting}
 use Rattle.engine.specs.Answer.{sets_above}
 use Rattle.token_rule.proofs.CyclesLaws.{after-append, cycles-after, fitting-after}
 use Rattle.token_rule.specs.Calls.{Call, step, run, returned, Done, Chain, last_state, goes, roomy, makes, run_cycles, cycles_in, cycles_of}

@@ -2,13 +2,13 @@
 use mathlib.Core.List.{List, [], ◌∷◌, ◌++◌}
 use Rattle.std.specs.Prelude.{◌≡◌, refl, ℕ, ◌+◌, ◌<◌, ◌≤◌, length}
 use native.Mathlib.Omega.{arith}
-use Rattle.netlist.specs.Image.{nodes}
-use Rattle.netlist.specs.Accepted.{Accepted}
+use Rattle.image.specs.Image.{nodes}
+use Rattle.verdict.specs.Accepted.{Accepted}
 use Rattle.state.specs.declared.State.{State}
 use Rattle.state.specs.State.{firings_at}
 use Rattle.cycle.specs.Cycle.{state_after, after}
 use Rattle.cycle.specs.CycleLaws.{cycles-next, firings_next}
-use Rattle.state.specs.Fitting.{Steady, Fitting}
+use Rattle.fitting.specs.Fitting.{Steady, Fitting}
 use Rattle.cycle.specs.KeptLaws.{steady-next, fitting-next}
 use Rattle.token_rule.specs.Safety.{Sound}
 use Rattle.token_rule.specs.SafetyLaws.{sound-next}

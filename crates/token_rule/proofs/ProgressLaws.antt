@@ -5,11 +5,11 @@ use Rattle.std.proofs.Math.Logic.{⊎_elim}
 use Rattle.std.proofs.Common.{not-suc-le-zero, arith}
 use Rattle.laws.specs.BelowLaws.{most-at}
 use Rattle.laws.specs.Cases.{true_or_false}
-use Rattle.netlist.specs.Image.{nodes, channels, from, to, stations}
-use Rattle.netlist.specs.Accepted.{Accepted}
+use Rattle.image.specs.Image.{nodes, channels, from, to, stations}
+use Rattle.verdict.specs.Accepted.{Accepted}
 use Rattle.state.specs.declared.State.{State}
 use Rattle.state.specs.State.{firings_at}
-use Rattle.state.specs.Fitting.{Steady}
+use Rattle.fitting.specs.Fitting.{Steady}
 use Rattle.cycle.specs.Counters.{entered}
 use Rattle.cycle.specs.CountersLaws.{entered_source, entered_taken, limit_taken, entered-next, enabled-fires}
 use Rattle.cycle.specs.Cycle.{stalled, fires, state_after}

@@ -3,18 +3,18 @@ use Rattle.std.specs.Prelude.{Bool, false, not, List, [], ◌∷◌, ◌++◌, �
 use Rattle.std.proofs.Math.Bool.{true}
 use Rattle.std.proofs.Common.{append-nil, sym, ap, subst, ◌∙◌, zero-add, arith, eqb-true, eq-eqb, ne_eqb, length-append}
 use Rattle.std.proofs.Math.ListN.{length}
-use Rattle.netlist.specs.Image.{nodes}
-use Rattle.netlist.specs.Accepted.{Accepted}
-use Rattle.netlist.specs.AcceptedLaws.{accepted}
-use Rattle.netlist.specs.Judge.{judge}
+use Rattle.image.specs.Image.{nodes}
+use Rattle.verdict.specs.Accepted.{Accepted}
+use Rattle.verdict.specs.AcceptedLaws.{accepted}
+use Rattle.verdict.specs.Judge.{judge}
 use Rattle.strict.specs.Strict.{strict}
 use Rattle.state.specs.Told.{Told}
 use Rattle.state.specs.declared.State.{State}
 use Rattle.state.specs.State.{firings_at}
 use Rattle.state.specs.Fresh.{fresh_state, fresh_answer, FreshDone}
-use Rattle.state.specs.Fitting.{Fitting}
+use Rattle.fitting.specs.Fitting.{Fitting}
 use Rattle.state.specs.FreshLaws.{fresh-cycles, fresh_firings}
-use Rattle.state.specs.FittingLaws.{fitting-fresh}
+use Rattle.fitting.specs.FittingLaws.{fitting-fresh}
 use Rattle.engine.specs.Answer.{sets_above}
 use Rattle.cycle.specs.Cycle.{after}
 use Rattle.token_rule.specs.Cycles.{fired_in}

@@ -2,7 +2,7 @@
 use Rattle.std.specs.Prelude.{Bool, not, ◌&&◌, List, [], ◌∷◌, ◌++◌, ℕ, suc, ◌+◌, leb, ltb, ℤ, length}
 use Rattle.laws.specs.Choice.{◌if◌else◌}
 use Rattle.laws.specs.Lists.{one_if}
-use Rattle.netlist.specs.Image.{nodes, channels}
+use Rattle.image.specs.Image.{nodes, channels}
 use Rattle.state.specs.declared.State.{State}
 use Rattle.state.specs.Told.{Told}
 use Rattle.engine.specs.Answer.{sets_above, RunTold}

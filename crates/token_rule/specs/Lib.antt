@@ -5,7 +5,6 @@ pub mod Cycles
 pub mod Calls
 pub mod Progress
 pub mod TokenRule
-pub mod Examples
 -- What the proof carries: a sound state.
 pub mod Safety
 pub mod SafetyLaws

@@ -2,7 +2,7 @@
 -- stalled in none of them, fires at least once in them."
 use Rattle.std.specs.Prelude.{false, List, [], ◌∷◌, ◌≡◌, ℕ, ◌<◌, ◌≤◌}
 use Rattle.laws.specs.Below.{most_below}
-use Rattle.netlist.specs.Image.{nodes, channels, stations}
+use Rattle.image.specs.Image.{nodes, channels, stations}
 use Rattle.state.specs.declared.State.{State}
 use Rattle.state.specs.State.{firings_at}
 use Rattle.cycle.specs.Cycle.{stalled}

@@ -2,7 +2,7 @@
 -- of the token rule carries from cycle to cycle.
 use Rattle.std.specs.Prelude.{List, ◌≡◌, ℕ, ◌<◌}
 use Rattle.laws.specs.Stretch.{Stretch}
-use Rattle.netlist.specs.Image.{nodes, channels, to}
+use Rattle.image.specs.Image.{nodes, channels, to}
 use Rattle.strict.specs.Strict.{strict, stream}
 use Rattle.shell.specs.Channel.{tokens}
 use Rattle.state.specs.declared.State.{State}

@@ -8,9 +8,9 @@ use Rattle.laws.specs.Choice.{◌if◌else◌}
 use Rattle.laws.specs.Lists.{one_if, drop_if}
 use Rattle.laws.specs.Stretch.{Stretch}
 use Rattle.laws.specs.StretchLaws.{stretch-append, stretch_one, stretch-drop}
-use Rattle.netlist.specs.Image.{nodes, channels, from, to}
-use Rattle.netlist.specs.Accepted.{Accepted}
-use Rattle.netlist.specs.AlikeLaws.{alike_same}
+use Rattle.image.specs.Image.{nodes, channels, from, to}
+use Rattle.verdict.specs.Accepted.{Accepted}
+use Rattle.image.specs.AlikeLaws.{alike_same}
 use Rattle.node.specs.Node.{next_of}
 use Rattle.node.specs.NodeLaws.{next_same}
 use Rattle.strict.specs.Strict.{strict, stream}
@@ -24,7 +24,7 @@ use Rattle.state.specs.State.{value_at, firings_at, channel_in}
 use Rattle.state.specs.Fresh.{fresh_state}
 use Rattle.cycle.specs.Cycle.{input_at, fires, state_after}
 use Rattle.cycle.specs.CycleLaws.{value_next, firings_next, fires_ready, fires-holds, tokens-next}
-use Rattle.state.specs.Fitting.{Steady}
+use Rattle.fitting.specs.Fitting.{Steady}
 use Rattle.state.specs.FreshLaws.{fresh_node_lem, fresh_firings, fresh-tokens}
 use Rattle.cycle.specs.KeptLaws.{steady-next}
 use Rattle.token_rule.specs.Safety.{Sound}

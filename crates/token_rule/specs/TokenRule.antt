@@ -3,7 +3,7 @@
 use Rattle.std.specs.Prelude.{true, not, List, ◌∷◌, ◌++◌, ◌↔◌, ◌≢◌, ◌≡◌, ℕ, suc, ◌+◌, ◌<◌, ◌≤◌, eqb, ltb, length, drop}
 use Rattle.laws.specs.Choice.{◌if◌else◌}
 use Rattle.laws.specs.Table.{table}
-use Rattle.netlist.specs.Image.{nodes, channels}
+use Rattle.image.specs.Image.{nodes, channels}
 use Rattle.strict.specs.Strict.{strict, stream}
 use Rattle.state.specs.declared.State.{State}
 use Rattle.state.specs.State.{value_at, firings_at}

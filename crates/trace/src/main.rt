@@ -14,8 +14,8 @@ ghost use Rattle.cycle.specs.Cycle.{state_after, after};
 ghost use Rattle.engine.specs.Answer.{step_number};
 ghost use Rattle.engine.specs.Taken.{state_number};
 ghost use Rattle.text.specs.Lines.{closing_text, refused_text};
-ghost use Rattle.text.specs.Write.{Begins};
-ghost use Rattle.tracer.specs.Input.{image_of, words_of, input_number};
+ghost use Rattle.writer.specs.Write.{Begins};
+ghost use Rattle.trace_input.specs.Input.{image_of, words_of, input_number};
 ghost use Rattle.tracer.specs.Trace.{cycle_text, firings_of};
 
 use refusal::Refusal;
@@ -115,8 +115,8 @@ fn print_cycles(rt: &impl Print, image: &[u8], input: &[u8]) -> io::Result<State
 {
     let mut state = State::fresh(image).unwrap_or_else(|refused| refused.state);
     // By places: over the words' bytes it would be no plainer, since what number they are `word_at` says.
-    for k in 0..tracer::words(input) {
-        let cycled = cycle_line(image, state, tracer::word_at(input, k));
+    for k in 0..trace_input::words(input) {
+        let cycled = cycle_line(image, state, trace_input::word_at(input, k));
         state = cycled.state;
         print(rt, cycled.line)?;
     }
@@ -137,8 +137,8 @@ fn print_trace(rt: &impl Print, image: &[u8], input: &[u8]) -> io::Result<()>
 fn trace(rt: &impl Print, input: &[u8], size: u64) -> io::Result<()>
     requires { length input.now ≡ min size 33570 }
 {
-    match tracer::judge(input, size) {
-        Ok(()) => print_trace(rt, &input[..tracer::image_length(input)], input),
+    match trace_input::judge(input, size) {
+        Ok(()) => print_trace(rt, &input[..trace_input::image_length(input)], input),
         Err(refusal) => print(rt, refusal_line(refusal)),
     }
 }

@@ -9,7 +9,7 @@ use Rattle.cycle.specs.Cycle.{state_after}
 use Rattle.engine.specs.Answer.{step_number}
 use Rattle.engine.specs.Taken.{state_number}
 use Rattle.text.specs.Lines.{closing_text}
-use Rattle.text.specs.Write.{written_answer, written_over, WriteTold, write_told}
+use Rattle.writer.specs.Write.{written_answer, written_over, WriteTold, write_told}
 use Rattle.tracer.specs.declared.Lined.{Lined}
 use Rattle.tracer.specs.Trace.{cycle_text, firings_of}
 

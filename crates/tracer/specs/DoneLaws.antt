@@ -7,13 +7,13 @@ use Rattle.std.proofs.Math.ListN.{take, get_or, get_or-append}
 use Rattle.laws.specs.Cases.{true_or_false}
 use Rattle.laws.specs.Table.{table}
 use Rattle.laws.specs.TableLaws.{length-table, table_at, table_same, take-table}
-use Rattle.netlist.specs.Image.{nodes, channels}
-use Rattle.netlist.specs.Judge.{judge}
+use Rattle.image.specs.Image.{nodes, channels}
+use Rattle.verdict.specs.Judge.{judge}
 use Rattle.refusal.specs.Number.{number}
 use Rattle.refusal.specs.NumberLaws.{number_positive}
 use Rattle.refusal.specs.declared.Refusal.{Refusal}
 use Rattle.relay.specs.declared.Reading.{Reading}
-use Rattle.netlist.specs.AcceptedLaws.{accepted}
+use Rattle.verdict.specs.AcceptedLaws.{accepted}
 use Rattle.state.specs.declared.State.{State}
 use Rattle.state.specs.State.{firings_at}
 use Rattle.cycle.specs.Cycle.{seen_at, state_after, letters_of, values_of}
@@ -23,8 +23,8 @@ use Rattle.engine.specs.AnswerLaws.{number_ok, state_ok}
 use Rattle.engine.specs.Done.{StepDone}
 use Rattle.engine.specs.Taken.{state_number}
 use Rattle.text.specs.Lines.{line_text, closing_text, state_at}
-use Rattle.text.specs.Write.{written_answer, WriteDone, WriteTold, write_told}
-use Rattle.text.specs.WriteLaws.{told_ok}
+use Rattle.writer.specs.Write.{written_answer, WriteDone, WriteTold, write_told}
+use Rattle.writer.specs.WriteLaws.{told_ok}
 use Rattle.tracer.specs.Trace.{cycle_text, firings_of}
 use Rattle.tracer.specs.Done.{LineTold, line_answer, line_over, LineDone, closing_answer, closing_over, ClosingDone}
 

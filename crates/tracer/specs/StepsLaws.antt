@@ -2,14 +2,14 @@
 use Rattle.std.specs.Prelude.{List, ◌≡◌, ℕ, zero, suc, ◌<◌, ◌≤◌, length, get_or, take}
 use Rattle.std.proofs.Common.{sym, ap, ◌∙◌, arith, le-ltb, ne_eqb}
 use Rattle.std.proofs.Math.Seq.{take-length}
-use Rattle.netlist.specs.Image.{channels}
-use Rattle.netlist.specs.Accepted.{Accepted}
-use Rattle.netlist.specs.AcceptedLaws.{accepted}
+use Rattle.image.specs.Image.{channels}
+use Rattle.verdict.specs.Accepted.{Accepted}
+use Rattle.verdict.specs.AcceptedLaws.{accepted}
 use Rattle.state.specs.Fresh.{fresh_state}
 use Rattle.state.specs.FreshLaws.{fresh-cycles}
-use Rattle.state.specs.Fitting.{Fitting}
-use Rattle.state.specs.FittingLaws.{fitting-fresh}
-use Rattle.state.specs.FitsLaws.{fits-fitting}
+use Rattle.fitting.specs.Fitting.{Fitting}
+use Rattle.fitting.specs.FittingLaws.{fitting-fresh}
+use Rattle.fitting.specs.FitsLaws.{fits-fitting}
 use Rattle.cycle.specs.Cycle.{after}
 use Rattle.cycle.specs.CycleLaws.{cycles-next}
 use Rattle.cycle.specs.KeptLaws.{fitting-next}
@@ -17,8 +17,8 @@ use Rattle.cycle.specs.Turns.{after_next}
 use Rattle.engine.specs.Answer.{step_number}
 use Rattle.engine.specs.Taken.{state_number}
 use Rattle.engine.specs.AnswerLaws.{state_0, number_last}
-use Rattle.tracer.specs.Input.{image_of, words_of, input_number}
-use Rattle.tracer.specs.InputLaws.{input-accepted, words_few, words_below}
+use Rattle.trace_input.specs.Input.{image_of, words_of, input_number}
+use Rattle.trace_input.specs.InputLaws.{input-accepted, words_few, words_below}
 
 -- the state before word k fits, and k cycles are done
 steps_fit :

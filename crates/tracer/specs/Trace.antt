@@ -2,7 +2,7 @@
 use Rattle.std.specs.Prelude.{not, List, [], ◌∷◌, ℕ, eqb, length}
 use Rattle.laws.specs.Choice.{◌if◌else◌}
 use Rattle.laws.specs.Table.{table}
-use Rattle.netlist.specs.Image.{nodes, channels}
+use Rattle.image.specs.Image.{nodes, channels}
 use Rattle.relay.specs.declared.Reading.{Reading}
 use Rattle.state.specs.declared.State.{State}
 use Rattle.state.specs.State.{firings_at}
@@ -10,7 +10,7 @@ use Rattle.state.specs.Fresh.{fresh_state}
 use Rattle.cycle.specs.Cycle.{seen_at, state_after, after}
 use Rattle.text.specs.Lines.{line_text, refused_text}
 use Rattle.text.specs.Trace.{trace_text}
-use Rattle.tracer.specs.Input.{image_of, words_of, input_number}
+use Rattle.trace_input.specs.Input.{image_of, words_of, input_number}
 
 -- "for each cycle .. each channel's letter, with its value": the row of the cycle that a state begins, and of each cycle from there on
 abbrev pub row_seen : List ℕ → State → List Reading

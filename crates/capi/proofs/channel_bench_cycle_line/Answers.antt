@@ -2,16 +2,13 @@
 use mathlib.Core.Path.{refl}
 use native.Mathlib.Omega.{arith}
 use Rattle.refusal.specs.NumberLaws.{number_positive}
-use Rattle.capi.specs.CallsLaws.{line_sized, line_called, line_refused}
+use Rattle.capi.specs.CallsLaws.{line_called, line_refused}
 use Rattle.capi.proofs.channel_bench_cycle_line.Goals as goal
 
-pub put_state-requires : goal.put_state-requires
-put_state-requires c = omega (arith, line_sized c.args.state.now (rw c.state_in.ensures at c.in-Ok.ensures.line_done) refl)
-
 pub returns-in-Ok : goal.returns-in-Ok
-returns-in-Ok c = line_called c.args.state.now (rw c.state_in.ensures at c.in-Ok.ensures.line_done) refl c.put_state.ensures
+returns-in-Ok c = rw c.number.ensures (line_called c.args.state.now (rw c.state_in.ensures at c.in-Ok.ensures.line_done) refl c.put_state.ensures)
 
 pub returns-in-Err : goal.returns-in-Err
 returns-in-Err c =
     let p = number_positive c.in-Err.unwritten.refusal in
-    rw c.number.ensures (line_refused c.args.state.now (rw c.state_in.ensures at c.in-Err.ensures.line_done) (λ z. absurd (omega (arith, z, p))))
+    rw c.number-in-Err.ensures (line_refused c.args.state.now (rw c.state_in.ensures at c.in-Err.ensures.line_done) (λ z. absurd (omega (arith, z, p))))

@@ -1,15 +1,14 @@
 -- `capi::channel_bench_fresh` meets its contract. Assumes nothing.
-use mathlib.Core.Path.{ap}
-use Rattle.state.specs.Told.{Told}
-use Rattle.capi.specs.CallsLaws.{fresh_written, fresh_short}
+use mathlib.Core.Path.{refl}
+use native.Mathlib.Omega.{arith}
+use Rattle.refusal.specs.NumberLaws.{number_positive}
+use Rattle.capi.specs.CallsLaws.{fresh_made, fresh_refused}
 use Rattle.capi.proofs.channel_bench_fresh.Goals as goal
 
-pub returns-then-state-ge-STATE : goal.returns-then-state-ge-STATE
-returns-then-state-ge-STATE c =
-    rw c.stop_number.ensures
-    (fresh_written c.args.state.now (rw c.as_returned-fresh.ensures at c.fresh.ensures) c.if-state-ge-STATE.true c.put_state.ensures)
+pub returns-in-Ok : goal.returns-in-Ok
+returns-in-Ok c = rw c.number.ensures (fresh_made c.args.state.now c.in-Ok.ensures c.put_state.ensures refl)
 
-pub returns : goal.returns
-returns c =
-    fresh_short c.args.state.now c.fresh.ensures c.if-state-ge-STATE.false c.as_returned-fresh.result.refusal
-    (ap (λ (t : Told). t.number) c.as_returned-fresh.ensures) (rw c.unwrap_or.ensures at c.number.ensures)
+pub returns-in-Err : goal.returns-in-Err
+returns-in-Err c =
+    let p = number_positive c.in-Err.refused.refusal in
+    rw c.number-in-Err.ensures (fresh_refused c.args.state.now c.in-Err.ensures c.put_state-in-Err.ensures (λ z. absurd (omega (arith, z, p))))

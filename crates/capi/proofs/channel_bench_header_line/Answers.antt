@@ -5,7 +5,7 @@ use Prim.Native.Nat.{◌≤◌}
 use lib.ListN.{length}
 use Rattle.text.specs.Ascii.{ascii}
 use Rattle.text.specs.Trace.{header}
-use Rattle.text.specs.WriteLaws.{write_none, write_made}
+use Rattle.writer.specs.WriteLaws.{write_none, write_made}
 use Rattle.capi.specs.CallsLaws.{text-called}
 use Rattle.capi.proofs.channel_bench_header_line.Goals as goal
 

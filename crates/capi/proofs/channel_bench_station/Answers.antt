@@ -1,13 +1,11 @@
 -- `capi::channel_bench_station` meets its contract. Assumes nothing.
-use Rattle.std.proofs.Common.{◌≡◌, ℤ, sym, ap, ◌∙◌, arith}
+use Rattle.std.proofs.Common.{◌≡◌, ℤ, sym, ap, ◌∙◌}
 use Rattle.std.proofs.Math.Facts.{to_z-of_z}
 use Rattle.std.specs.Bool.{then_some}
 use Rattle.bench.specs.ByValue.{BenchedTold, benched_told, station_benched}
 use Rattle.relay.specs.declared.Station.{Station}
-use Rattle.text.specs.PutLaws.{put_front}
-use Rattle.capi.specs.Bytes.{record_in}
-use Rattle.capi.specs.BytesLaws.{station_long}
-use Rattle.capi.specs.RecordsLaws.{ok_number, err-number, told_call, record_sized, station-called, station_refused}
+use Rattle.layout.specs.Bytes.{record_in}
+use Rattle.capi.specs.RecordsLaws.{ok_number, err-number, told_call, station-called, station_refused}
 use Rattle.capi.proofs.channel_bench_station.Goals.{After-tell-number}
 use Rattle.capi.proofs.channel_bench_station.Goals as goal
 
@@ -19,21 +17,13 @@ done c =
     let link = c.then_some-link.ensures ∙ ap (λ (v : ℤ). then_some c.args.valid v) (to_z-of_z c.ranges.value) in
     rw (c.record_in.ensures, link) at c.station_step-benched.ensures
 
-pub put-requires : goal.put-requires
-put-requires c =
-    let a = c.args in
-    let d = (goal.at.put-requires c).After-tell-number in
-    omega (arith, record_sized a.station.now a.valid a.value a.stop (done d) (ok_number c.station_step-benched.result.answer (sym c.is_ok.ensures.value ∙ c.if-is_ok.true)), station_long c.station_step-benched.result.after)
-
 pub returns-then-is_ok : goal.returns-then-is_ok
 returns-then-is_ok c =
     let a = c.args in
     let d = (goal.at.returns-then-is_ok c).After-tell-number in
     let z = ok_number c.station_step-benched.result.answer (sym c.is_ok.ensures.value ∙ c.if-is_ok.true) in
-    let long = record_sized a.station.now a.valid a.value a.stop (done d) z in
-    let front = put_front (rw station_long (omega (arith, long))) c.put.ensures in
     told_call _ a.station.now a.valid a.value a.stop _ c.tell-number.ensures
-    (station-called a.station.now a.valid a.value a.stop (done d) z (rw station_long at front))
+    (station-called a.station.now a.valid a.value a.stop (done d) z c.put_records.ensures)
 
 pub returns-else-is_ok : goal.returns-else-is_ok
 returns-else-is_ok c =

@@ -2,16 +2,13 @@
 use mathlib.Core.Path.{refl}
 use native.Mathlib.Omega.{arith}
 use Rattle.refusal.specs.NumberLaws.{number_positive}
-use Rattle.capi.specs.CallsLaws.{step-sized, step-called, step_refused}
+use Rattle.capi.specs.CallsLaws.{step-called, step_refused}
 use Rattle.capi.proofs.channel_bench_step.Goals as goal
 
-pub put_state-requires : goal.put_state-requires
-put_state-requires c = omega (arith, step-sized c.args.state.now (rw c.state_in.ensures at c.in-Ok.ensures) refl)
-
 pub returns-in-Ok : goal.returns-in-Ok
-returns-in-Ok c = step-called c.args.state.now (rw c.state_in.ensures at c.in-Ok.ensures) refl c.put_state.ensures
+returns-in-Ok c = rw c.number.ensures (step-called c.args.state.now (rw c.state_in.ensures at c.in-Ok.ensures) refl c.put_state.ensures)
 
 pub returns-in-Err : goal.returns-in-Err
 returns-in-Err c =
     let p = number_positive c.in-Err.refused.refusal in
-    rw c.number.ensures (step_refused c.args.state.now (rw c.state_in.ensures at c.in-Err.ensures) (λ z. absurd (omega (arith, z, p))))
+    rw c.number-in-Err.ensures (step_refused c.args.state.now (rw c.state_in.ensures at c.in-Err.ensures) (λ z. absurd (omega (arith, z, p))))

@@ -1,7 +1,7 @@
 -- `engine::admitted` meets its contract. Assumes nothing.
 use Rattle.std.proofs.Common.{rules, Bool, true, false, ◌||◌, ◌≡◌, ℕ, List, eqb, ltb, sym, ap, ◌∙◌, arith, eq-eqb, ne_eqb}
 use Rattle.laws.specs.Choice.{◌if◌else◌}
-use Rattle.netlist.specs.Image.{nodes, channels}
+use Rattle.image.specs.Image.{nodes, channels}
 use Rattle.refusal.specs.NumberLaws.{number_positive}
 use Rattle.state.specs.declared.State.{State}
 use Rattle.engine.specs.Taken.{state_number}

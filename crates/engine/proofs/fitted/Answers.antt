@@ -1,10 +1,10 @@
 -- `engine::fitted` meets its contract. Assumes nothing.
 use Rattle.std.proofs.Common.{rules, ◌≡◌, sym, ap, ◌∙◌, arith}
-use Rattle.netlist.specs.AcceptedLaws.{accepted}
+use Rattle.verdict.specs.AcceptedLaws.{accepted}
 use Rattle.refusal.specs.NumberLaws.{number_positive}
-use Rattle.state.specs.Fits.{fits}
-use Rattle.state.specs.FitsLaws.{fitting}
-use Rattle.state.proofs.Shape.{shaped}
+use Rattle.fitting.specs.Fits.{fits}
+use Rattle.fitting.specs.FitsLaws.{fitting}
+use Rattle.fitting.proofs.Shape.{shaped}
 use Rattle.engine.specs.AnswerLaws.{state-judge, state_21, state_0}
 use Rattle.engine.proofs.fitted.Goals.{After-fits}
 use Rattle.engine.proofs.fitted.Goals as goal

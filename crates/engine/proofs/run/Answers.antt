@@ -1,6 +1,6 @@
 -- `engine::run` meets its contract. Assumes nothing.
 use Rattle.std.proofs.Common.{◌≡◌, ℕ, ◌≤◌, ◌+◌, length, take, sym, ap, ◌∙◌, arith, length-take}
-use Rattle.netlist.specs.Image.{nodes}
+use Rattle.image.specs.Image.{nodes}
 use Rattle.refusal.specs.NumberLaws.{number_positive}
 use Rattle.state.specs.declared.State.{State}
 use Rattle.cycle.specs.Cycle.{after}

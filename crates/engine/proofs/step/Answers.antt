@@ -4,8 +4,8 @@ use Rattle.std.specs.Prelude.{Result, Ok, Err, unwrap_or}
 use Rattle.std.specs.Result.{MatchResult, IsErrAnd, is_ok, result_ok}
 use Rattle.std.proofs.lemmas.Bool.{false≢true}
 use Rattle.laws.specs.Table.{table_over}
-use Rattle.netlist.specs.Image.{channels}
-use Rattle.netlist.specs.declared.accepted.Netlist.{Netlist}
+use Rattle.image.specs.Image.{channels}
+use Rattle.netlist.specs.declared.Netlist.{Netlist}
 use Rattle.refusal.specs.Number.{number}
 use Rattle.refusal.specs.NumberLaws.{number_positive}
 use Rattle.refusal.specs.declared.Refusal.{Refusal}

@@ -6,9 +6,9 @@ use native.Mathlib.Numerals.{add-one}
 use native.Mathlib.Omega.{arith}
 use borrow.Author.Tests.{le-ltb}
 use Rattle.laws.specs.Range.{outside}
-use Rattle.netlist.specs.Image.{nodes, kind}
-use Rattle.netlist.specs.AcceptedLaws.{accepted}
-use Rattle.netlist.specs.Readers.{core_at}
+use Rattle.image.specs.Image.{nodes, kind}
+use Rattle.verdict.specs.AcceptedLaws.{accepted}
+use Rattle.image.specs.Readers.{core_at}
 use Rattle.pearl.specs.KindLaws.{decodes_ok, code-decoded}
 use Rattle.node.specs.KindsLaws.{kinds_none, kinds_more}
 use Rattle.node.proofs.kinds_of.Goals as goal

@@ -3,7 +3,7 @@ use mathlib.Core.Path.{◌≡◌}
 use lib.IntN.{pos}
 use Rattle.laws.specs.Lists.{padded}
 use Rattle.laws.specs.Table.{table}
-use Rattle.netlist.specs.Image.{parameter}
+use Rattle.image.specs.Image.{parameter}
 use Rattle.strict.proofs.first.Given as goal
 
 abbrev pub invariant-loop-n : goal.invariant-loop-n

@@ -1,6 +1,6 @@
 -- `strict::strict` meets its contract. Assumes nothing.
 use mathlib.Core.Path.{sym, ap}
-use Rattle.netlist.specs.AcceptedLaws.{accepted}
+use Rattle.verdict.specs.AcceptedLaws.{accepted}
 use Rattle.strict.specs.DecodedLaws.{take-values}
 use Rattle.strict.specs.AnswerLaws.{written_all}
 use Rattle.strict.proofs.strict.Goals as goal

@@ -1,7 +1,7 @@
 -- `trace::closing_line` meets its contract. Assumes nothing.
 use Rattle.text.specs.Lines.{closing_text}
-use Rattle.text.specs.Write.{Begins}
-use Rattle.text.specs.WriteLaws.{written_begins}
+use Rattle.writer.specs.Write.{Begins}
+use Rattle.writer.specs.WriteLaws.{written_begins}
 use Rattle.tracer.specs.Trace.{firings_of}
 use Rattle.trace.proofs.closing_line.Goals.{After-written-length}
 use Rattle.tracer.specs.DoneLaws.{closing_made}

@@ -1,5 +1,5 @@
 -- `trace::cycle_line` meets its contract. Assumes nothing.
-use Rattle.text.specs.WriteLaws.{written_begins}
+use Rattle.writer.specs.WriteLaws.{written_begins}
 use Rattle.tracer.specs.DoneLaws.{line_made}
 use Rattle.trace.proofs.cycle_line.Goals as goal
 

@@ -14,8 +14,8 @@ use Rattle.std.specs.Result.{MatchResult}
 use Rattle.std.proofs.Common.{rules}
 use Rattle.cycle.specs.Cycle.{after}
 use Rattle.cycle.specs.Turns.{after_next}
-use Rattle.tracer.specs.Input.{words_of}
-use Rattle.tracer.specs.InputLaws.{length-words, input-accepted}
+use Rattle.trace_input.specs.Input.{words_of}
+use Rattle.trace_input.specs.InputLaws.{length-words, input-accepted}
 use Rattle.tracer.specs.StepsLaws.{step_taken}
 use Rattle.trace.proofs.print_cycles.Goals as goal
 

@@ -4,7 +4,7 @@ use Prim.Native.Nat.{◌≤◌}
 use lib.ListN.{length, take}
 use Rattle.state.specs.Fresh.{fresh_state}
 use Rattle.cycle.specs.Cycle.{after}
-use Rattle.tracer.specs.Input.{words_of}
+use Rattle.trace_input.specs.Input.{words_of}
 use Rattle.trace.proofs.print_cycles.Given as goal
 
 abbrev pub invariant-loop-k : goal.invariant-loop-k

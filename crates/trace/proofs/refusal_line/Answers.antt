@@ -1,8 +1,8 @@
 -- `trace::refusal_line` meets its contract. Assumes nothing.
 use Rattle.refusal.specs.Number.{number}
 use Rattle.text.specs.Lines.{refused_text}
-use Rattle.text.specs.Write.{Begins}
-use Rattle.text.specs.WriteLaws.{written_begins}
+use Rattle.writer.specs.Write.{Begins}
+use Rattle.writer.specs.WriteLaws.{written_begins}
 use Rattle.trace.proofs.refusal_line.Goals.{After-written-length}
 use Rattle.trace.proofs.refusal_line.Goals as goal
 

@@ -7,10 +7,10 @@ use borrow.Author.Rules.{rules}
 use mir.Syntax.{w32}
 use mir.Val.{SFits}
 use mir.Facts.{to_z-of_z}
-use Rattle.netlist.specs.declared.Core.{Core}
-use Rattle.netlist.specs.Image.{nodes, channels}
-use Rattle.netlist.specs.Readers.{core_at}
-use Rattle.netlist.specs.AcceptedLaws.{accepted}
+use Rattle.image.specs.declared.Core.{Core}
+use Rattle.image.specs.Image.{nodes, channels}
+use Rattle.image.specs.Readers.{core_at}
+use Rattle.verdict.specs.AcceptedLaws.{accepted}
 use Rattle.state.specs.FreshLaws.{filled_none, filled_node, filled_mark, filled_all}
 use Rattle.state.proofs.State.started.Goals as goal
 

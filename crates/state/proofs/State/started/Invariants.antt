@@ -1,7 +1,7 @@
 -- The first n nodes are filled in, and then the first c marks.
 use mathlib.Core.Path.{◌≡◌}
 use Prim.Native.Nat.{◌≤◌}
-use Rattle.netlist.specs.Image.{nodes}
+use Rattle.image.specs.Image.{nodes}
 use Rattle.state.specs.FreshLaws.{filled}
 use Rattle.state.proofs.State.started.Given as goal
 

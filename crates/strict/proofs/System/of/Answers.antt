@@ -1,6 +1,6 @@
 -- `strict::System::of` meets its contract. Assumes nothing.
 use native.Mathlib.Omega.{arith}
-use Rattle.netlist.specs.AcceptedLaws.{accepted}
+use Rattle.verdict.specs.AcceptedLaws.{accepted}
 use Rattle.strict.specs.DecodedLaws.{feeders-within}
 use Rattle.strict.proofs.System.of.Goals as goal
 

@@ -1,9 +1,0 @@
--- `capi::read::queues_in` meets its contract. Assumes nothing.
-use Prim.Native.Nat.{◌+◌, ◌*◌}
-use Rattle.capi.specs.Bytes.{queue_in}
-use Rattle.std.proofs.Common.{rules}
-use Rattle.laws.specs.ArrayLaws.{made_table}
-use Rattle.capi.proofs.read.queues_in.Goals as goal
-
-pub returns : goal.returns
-returns c = made_table (λ k. queue_in c.args.bytes.now (7524 + 33 * k)) c.from_fn.ensures.items (λ i y q l called. search rules)

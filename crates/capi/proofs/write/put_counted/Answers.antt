@@ -1,6 +1,0 @@
--- `capi::write::put_counted` meets its contract. Assumes nothing.
-use Rattle.text.specs.PutLaws.{put_one, put-after}
-use Rattle.capi.proofs.write.put_counted.Goals as goal
-
-pub returns : goal.returns
-returns c = let p = c.put_all-end in put-after p.ensures (put_one c.args.count p.result _)

@@ -1,0 +1,6 @@
+use mathlib.Core.Path.{◌≡◌}
+use Rattle.cycle.specs.Parts.{wires_below}
+use Rattle.clock.proofs.wires_of.Given as goal
+
+abbrev pub invariant-loop-c : goal.invariant-loop-c
+invariant-loop-c l = l.wires ≡ wires_below l.netlist.image.now l.c

@@ -1,0 +1,155 @@
+// Cycles, one after another: which inputs are ready (data validation), which nodes are held back (back pressure),
+// which nodes fire (clock gating), and then every token that passes moves on.
+#![tactic(auto)]
+
+ghost use Rattle.std.specs.Prelude.{◌≡◌, suc, ◌+◌, ◌<◌, ◌≤◌, length};
+ghost use Rattle.image.specs.Image.{channels};
+ghost use Rattle.pearl.specs.Kind.{code};
+ghost use Rattle.pearl.specs.Next.{next_value};
+ghost use Rattle.cycle.specs.Cycle.{stalled, after};
+ghost use Rattle.fitting.specs.Fitting.{Fitting};
+ghost use Rattle.cycle.specs.Parts.{wires_below};
+
+use image::Channel;
+use netlist::Netlist;
+use pearl::Kind;
+use state::{Node, State};
+
+// Bit n of a stall word. A node's number is below 64 by what a netlist promises; here a shift asks for it.
+fn stalls(word: u64, n: usize) -> bool
+    requires { n < 64 }
+    ensures { result ≡ stalled word n }
+{
+    (word >> n) % 2 == 1
+}
+
+// A node that fires, from what its ports bring. At most 1,000,000 is asked here, at `cycles` and of a run's
+// words: of firings, of a sum and of a cycle count. That is no one value, so no struct has it.
+fn fired(node: Node, kind: Kind, a: i32, b: i32, c: i32) -> Node
+    requires { node.firings < 1000000 }
+    ensures { result ≡ record { value = next_value (code kind) node.value a b c; firings = suc node.firings } }
+{
+    Node {
+        value: kind.next(node.value, a, b, c),
+        firings: node.firings + 1,
+    }
+}
+
+// The fields of all channels. By index, since the netlist is asked for each channel by its number.
+fn wires_of(netlist: Netlist) -> [Channel; 96]
+    ensures { result ≡ wires_below netlist.entry.image.now (channels netlist.entry.image.now) }
+{
+    // By hand: only this array wants a channel of zeros, and its definition names them.
+    let none = Channel {
+        from: 0,
+        to: 0,
+        port: 0,
+        stations: 0,
+        depth: 0,
+    };
+    let mut wires = [none; 96];
+    for c in 0..netlist.channels() {
+        wires[c as usize] = netlist.channel(c);
+    }
+    wires
+}
+
+// The state after the cycles of these words. Each cycle is worked from the state at its start, `old`,
+// and written to `s`. It is one function because a state that is handed to another is copied, which
+// costs a tenth of the cycle each time (docs/PERFORMANCE.md). For the same reason the fields of a channel
+// are taken out in both loops over the channels, and once more in `show`. Netlist and state are no struct that
+// says that they fit: `fitted` of the engine would answer a state of 13 kB in a `Result`, beside its caller's own.
+// What is decoded of the netlist stands beside the state's arrays: it is the same in every cycle.
+//
+// The loops go by index: each turn reads and writes several arrays, at places that it works out. Starved,
+// blocked and firing nodes have arrays of their own, since a channel marks one node as starved and another
+// as blocked. What the inputs bring stands flat, port p of node n at place 3 * n + p, as the judge's marks
+// and the strict run's feeders do: one law of ports serves all three.
+pub fn cycles(netlist: Netlist, state: State, words: &[u64]) -> State
+    requires fitting { Fitting netlist.image.now state }
+    requires words_bound { state.cycles + length words.now ≤ 1000000 }
+    ensures { result ≡ after netlist.entry.image.now state words.now }
+{
+    let nodes = netlist.nodes() as usize;
+    let channels = netlist.channels() as usize;
+    let wires = wires_of(netlist);
+    let kinds = node::kinds_of(netlist);
+    let mut s = state;
+    for &word in words {
+        let old = s;
+        // Data validation, and back pressure: which nodes an input is not ready for, what the inputs
+        // bring, and which nodes are blocked.
+        let mut starved = [false; 64];
+        let mut brought = [0; 192];
+        let mut blocked = [false; 64];
+        for c in 0..channels {
+            let channel = wires[c];
+            let from = channel.from as usize;
+            let to = channel.to as usize;
+            let length = channel.stations as usize;
+            let node = old.nodes[from];
+            let queue = old.queues[c];
+            let pending = old.pending[c] == 1;
+            let (link, stop) = if 0 < length {
+                (
+                    old.stations[8 * c + (length - 1)].link(),
+                    old.stations[8 * c].full(),
+                )
+            } else {
+                (pending.then_some(node.value), queue.full(channel.depth))
+            };
+            let input = queue.input(link);
+            brought[3 * to + channel.port as usize] = input.unwrap_or(0);
+            starved[to] = starved[to] | input.is_none();
+            blocked[from] = blocked[from] | shell::blocked(pending, stop);
+        }
+        // Clock gating: which nodes fire.
+        let mut fires = [false; 64];
+        for n in 0..nodes {
+            if !stalls(word, n) & !starved[n] & !blocked[n] {
+                let node = old.nodes[n];
+                s.nodes[n] = fired(
+                    node,
+                    kinds[n],
+                    brought[3 * n],
+                    brought[3 * n + 1],
+                    brought[3 * n + 2],
+                );
+                fires[n] = true;
+            }
+        }
+        // What passes moves on.
+        for c in 0..channels {
+            let channel = wires[c];
+            let from = channel.from as usize;
+            let to = channel.to as usize;
+            let length = channel.stations as usize;
+            let node = old.nodes[from];
+            let queue = old.queues[c];
+            let pending = old.pending[c] == 1;
+            let full = queue.full(channel.depth);
+            let mut stop = full;
+            if 0 < length {
+                stop = old.stations[8 * c].full();
+            }
+            // Behind the branch above: beside the load of its value this choice becomes a jump, a fifth slower.
+            let mut link = pending.then_some(node.value);
+            for j in 0..length {
+                let station = old.stations[8 * c + j];
+                let mut below = full;
+                if j + 1 < length {
+                    below = old.stations[8 * c + (j + 1)].full();
+                }
+                s.stations[8 * c + j] = station.after(link, below);
+                link = station.link();
+            }
+            let takes = fires[to];
+            if takes | (link.is_some() & !full) {
+                s.queues[c] = queue.after(link, full, takes);
+            }
+            s.pending[c] = u8::from(shell::pending_after(pending, stop, fires[from]));
+        }
+        s.cycles = old.cycles + 1;
+    }
+    s
+}

@@ -1,8 +1,0 @@
--- `cycle::stalls` meets its contract. Assumes nothing.
-use mathlib.Core.Path.{refl}
-use Rattle.cycle.specs.Cycle.{stalled}
-use Rattle.cycle.proofs.stalls.Goals as goal
-
-pub returns : goal.returns
-unfolding stalled
-returns c = refl

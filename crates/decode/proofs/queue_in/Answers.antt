@@ -1,0 +1,12 @@
+-- `decode::queue_in` meets its contract. Assumes nothing.
+use Prim.Native.Nat.{◌+◌, ◌*◌}
+use Rattle.std.proofs.Common.{rules}
+use Rattle.laws.specs.ArrayLaws.{made_table}
+use Rattle.layout.specs.Bytes.{token_in, queue_in}
+use Rattle.decode.proofs.queue_in.Goals as goal
+
+pub returns : goal.returns
+unfolding queue_in
+returns c =
+    let a = c.args in
+    rw (made_table (λ k. token_in a.bytes.now (a.at + 4 * k)) c.from_fn.ensures.items (λ i y q l called. search rules))

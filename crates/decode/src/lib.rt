@@ -1,0 +1,162 @@
+// A state and station records from bytes, at the places that the C interface gives them
+// (`include/channel_bench.h`). A reader is given a place with all its bytes behind it. One that is given a
+// chunk of its own size would be no plainer: the definitions name places (`layout`'s specs/Bytes.antt), and nodes,
+// stations and queues would each need a law that takes a chunk to its place.
+#![tactic(auto)]
+
+ghost use Rattle.std.specs.Prelude.{◌≡◌, ◌+◌, ◌*◌, ◌≤◌, length, get_or};
+ghost use Rattle.laws.specs.Table.{table};
+ghost use Rattle.image.specs.Image.{four_bytes};
+ghost use Rattle.layout.specs.Bytes.{token_in, node_in, station_in, queue_in, no_state, state_in, no_record, record_in, row_record, record_count};
+
+use relay::{Row, Station};
+use shell::Queue;
+use state::{Node, State};
+use std::array;
+
+// How many bytes a state has.
+pub const STATE: usize = 10692;
+
+// How many a station record has.
+const RECORD: usize = 9;
+
+fn token_in(bytes: &[u8], at: usize) -> i32
+    ensures { result ≡ token_in bytes.now at }
+{
+    image::as_signed(image::four_bytes(bytes, at))
+}
+
+fn node_in(bytes: &[u8], at: usize) -> Node
+    requires { at + 8 ≤ length bytes.now }
+    ensures { result ≡ node_in bytes.now at }
+{
+    Node {
+        value: token_in(bytes, at),
+        firings: image::four_bytes(bytes, at + 4),
+    }
+}
+
+fn station_in(bytes: &[u8], at: usize) -> Station
+    requires { at + 9 ≤ length bytes.now }
+    ensures { result ≡ station_in bytes.now at }
+{
+    let older = token_in(bytes, at);
+    let newer = token_in(bytes, at + 4);
+    Station {
+        tokens: [older, newer],
+        count: bytes[at + 8],
+    }
+}
+
+fn queue_in(bytes: &[u8], at: usize) -> Queue
+    requires { at + 33 ≤ length bytes.now }
+    ensures { result ≡ queue_in bytes.now at }
+{
+    Queue {
+        tokens: array::from_fn(|i| token_in(bytes, at + 4 * i)),
+        count: bytes[at + 32],
+    }
+}
+
+// The parts of a state. Four functions and no generic one: each is one call of `from_fn`, and its contract
+// names the place and the size of its part.
+fn nodes_in(bytes: &[u8]) -> [Node; 64]
+    requires { 516 ≤ length bytes.now }
+    ensures { result ≡ table (λ n. node_in bytes.now (4 + 8 * n)) 64 }
+{
+    array::from_fn(|n| node_in(bytes, 4 + 8 * n))
+}
+
+fn marks_in(bytes: &[u8]) -> [u8; 96]
+    requires { 612 ≤ length bytes.now }
+    ensures { result ≡ table (λ c. get_or bytes.now (516 + c) 0) 96 }
+{
+    array::from_fn(|c| bytes[516 + c])
+}
+
+fn stations_in(bytes: &[u8]) -> [Station; 768]
+    requires { 7524 ≤ length bytes.now }
+    ensures { result ≡ table (λ i. station_in bytes.now (612 + 9 * i)) 768 }
+{
+    array::from_fn(|i| station_in(bytes, 612 + 9 * i))
+}
+
+fn queues_in(bytes: &[u8]) -> [Queue; 96]
+    requires { 10692 ≤ length bytes.now }
+    ensures { result ≡ table (λ c. queue_in bytes.now (7524 + 33 * c)) 96 }
+{
+    array::from_fn(|c| queue_in(bytes, 7524 + 33 * c))
+}
+
+// What bytes that are no state are read as: one that fits no image. An `Option` would be no plainer: each
+// call would say once more which numbers come before 21.
+fn no_state() -> State
+    ensures { result ≡ no_state }
+{
+    let mut state = State::zeros();
+    state.cycles = State::CYCLES + 1;
+    state
+}
+
+// The state that bytes are.
+pub fn state_in(bytes: &[u8]) -> State
+    ensures { result ≡ state_in bytes.now }
+{
+    if bytes.len() != STATE {
+        return no_state();
+    }
+    State {
+        cycles: image::four_bytes(bytes, 0),
+        nodes: nodes_in(bytes),
+        pending: marks_in(bytes),
+        stations: stations_in(bytes),
+        queues: queues_in(bytes),
+    }
+}
+
+// What bytes that are no record are read as: one that fits no bench, for the same reason.
+fn no_record() -> Station
+    ensures { result ≡ no_record }
+{
+    Station {
+        tokens: [0, 0],
+        count: Station::DEPTH + 1,
+    }
+}
+
+// The record that bytes are.
+pub fn record_in(bytes: &[u8]) -> Station
+    ensures { result ≡ record_in bytes.now }
+{
+    if bytes.len() != RECORD {
+        return no_record();
+    }
+    station_in(bytes, 0)
+}
+
+// Record i of a row.
+fn row_record(bytes: &[u8], i: usize) -> Station
+    requires { i ≤ 7 }
+    ensures { result ≡ row_record bytes.now i }
+{
+    if bytes.len() < RECORD * i + RECORD {
+        return no_record();
+    }
+    station_in(bytes, RECORD * i)
+}
+
+// How many records bytes are, the last of them whole or not.
+pub fn record_count(bytes: &[u8]) -> usize
+    ensures { result ≡ record_count bytes.now }
+{
+    (bytes.len() + 8) / RECORD
+}
+
+// The first eight records of a row, whether or not it has so many.
+pub fn row_in(bytes: &[u8]) -> Row
+    ensures { result.stations ≡ table (row_record bytes.now) 8 }
+{
+    Row {
+        stations: array::from_fn(|i| row_record(bytes, i)),
+    }
+}

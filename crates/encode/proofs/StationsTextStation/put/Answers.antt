@@ -1,0 +1,19 @@
+-- A station is put as its tokens and its count. Assumes nothing.
+use mathlib.Core.Path.{◌≡◌}
+use borrow.Author.Rules.{rules}
+use lib.ListN.{length}
+use Rattle.layout.specs.Bytes.{station_bytes}
+use Rattle.layout.specs.BytesLaws.{tokens_own}
+use Rattle.encode.proofs.StationsTextStation.put.Goals as goal
+
+pub put_counted-requires : goal.put_counted-requires
+unfolding station_bytes
+put_counted-requires c =
+    let long : length c.args.item.tokens ≡ 2 = search rules in
+    rw (tokens_own c.args.item.tokens long) c.requires
+
+pub returns : goal.returns
+unfolding station_bytes
+returns c =
+    let long : length c.args.item.tokens ≡ 2 = search rules in
+    rw (tokens_own c.args.item.tokens long) at c.put_counted.ensures

@@ -1,0 +1,17 @@
+-- A token is put as the number of its bits. Assumes nothing.
+use mathlib.Core.Path.{◌≡◌, ◌∙◌}
+use native.Mathlib.Omega.{arith}
+use mir.Facts.{to_z-of_z}
+use Rattle.layout.specs.Bytes.{bits_of, token_bytes}
+use Rattle.layout.specs.BytesLaws.{bits_same, word_long, token_long}
+use Rattle.encode.proofs.TokensTextI32.put.Goals as goal
+
+pub put-requires : goal.put-requires
+put-requires c = omega (arith, word_long c.cast_unsigned.result, token_long c.args.item)
+
+pub returns : goal.returns
+unfolding token_bytes
+returns c =
+    let f = c.ranges.item in
+    let e : c.cast_unsigned.result ≡ bits_of c.args.item = (simp to_z-of_z at c.cast_unsigned.ensures) ∙ bits_same c.args.item in
+    rw e at c.put.ensures

@@ -1,0 +1,123 @@
+// A state and station records as bytes, written to the first places of what is lent. A writer of a part is given a
+// place with enough room behind it; the answer is the place after the part.
+#![tactic(auto)]
+
+ghost use mathlib.Core.List.{flat_map, ◌++◌};
+ghost use Rattle.std.specs.Prelude.{[], ◌∷◌, ◌≡◌, ◌+◌, ◌≤◌, length};
+ghost use Rattle.writer.specs.Put.{Put};
+ghost use Rattle.writer.specs.Write.{WriteDone};
+ghost use Rattle.layout.specs.Bytes.{word_bytes, token_bytes, node_bytes, station_bytes, queue_bytes, state_bytes, state_length};
+
+use refusal::Refusal;
+use relay::Station;
+use shell::Queue;
+use state::{Node, State};
+use writer::Text;
+
+// How many bytes a state has.
+const STATE: usize = 10692;
+
+// How many a station record has.
+const RECORD: usize = 9;
+
+// Numbers of 32 bits.
+struct Words;
+
+impl Text<u32> for Words {
+    ghost text = { word_bytes };
+
+    fn put(item: u32, out: &mut [u8], at: usize) -> usize {
+        writer::put_bytes(&item.to_le_bytes(), out, at)
+    }
+}
+
+// Tokens.
+struct Tokens;
+
+impl Text<i32> for Tokens {
+    ghost text = { token_bytes };
+
+    fn put(item: i32, out: &mut [u8], at: usize) -> usize {
+        Words::put(item.cast_unsigned(), out, at)
+    }
+}
+
+struct Nodes;
+
+impl Text<Node> for Nodes {
+    ghost text = { node_bytes };
+
+    fn put(item: Node, out: &mut [u8], at: usize) -> usize {
+        let firings = Tokens::put(item.value, out, at);
+        Words::put(item.firings, out, firings)
+    }
+}
+
+// Tokens, and then how many of them are held.
+#[tactic(auto, using(writer::specs::PutLaws::put_steps))]
+fn put_counted(tokens: &[i32], count: u8, out: &mut [u8], at: usize) -> usize
+    requires { at + length (flat_map token_bytes tokens.now ++ (count ∷ [])) ≤ length out.old }
+    ensures { Put (flat_map token_bytes tokens.now ++ (count ∷ [])) at out.old out.new result }
+{
+    let end = writer::put_all::<Tokens, i32>(tokens, out, at);
+    out[end] = count;
+    end + 1
+}
+
+struct Stations;
+
+impl Text<Station> for Stations {
+    ghost text = { station_bytes };
+
+    fn put(item: Station, out: &mut [u8], at: usize) -> usize {
+        let tokens = item.tokens;
+        put_counted(&tokens, item.count, out, at)
+    }
+}
+
+struct Queues;
+
+impl Text<Queue> for Queues {
+    ghost text = { queue_bytes };
+
+    fn put(item: Queue, out: &mut [u8], at: usize) -> usize {
+        let tokens = item.tokens;
+        put_counted(&tokens, item.count, out, at)
+    }
+}
+
+// The parts of a state, one after another.
+fn put_parts(state: State, out: &mut [u8]) -> usize
+    requires { state_length ≤ length out.old }
+    ensures { Put (state_bytes state) 0 out.old out.new result }
+{
+    let nodes = state.nodes;
+    let marks = state.pending;
+    let stations = state.stations;
+    let queues = state.queues;
+    let first = Words::put(state.cycles, out, 0);
+    let second = writer::put_all::<Nodes, Node>(&nodes, out, first);
+    let third = writer::put_bytes(&marks, out, second);
+    let fourth = writer::put_all::<Stations, Station>(&stations, out, third);
+    writer::put_all::<Queues, Queue>(&queues, out, fourth)
+}
+
+// A state. Answers how many bytes it takes, and writes nothing where fewer are lent.
+pub fn put_state(state: State, out: &mut [u8]) -> Result<usize, Refusal>
+    ensures { WriteDone (state_bytes state) out.old result out.new }
+{
+    if out.len() < STATE {
+        return Err(Refusal::Room);
+    }
+    Ok(put_parts(state, out))
+}
+
+// Station records, one after another. Answers how many bytes they take, and writes nothing where fewer are lent.
+pub fn put_records(records: &[Station], out: &mut [u8]) -> Result<usize, Refusal>
+    ensures { WriteDone (flat_map station_bytes records.now) out.old result out.new }
+{
+    if out.len() / RECORD < records.len() {
+        return Err(Refusal::Room);
+    }
+    Ok(writer::put_all::<Stations, Station>(records, out, 0))
+}

@@ -1,0 +1,57 @@
+-- Number 21: "the state does not fit the image. It fits when:" the six conditions below hold, in this order.
+use Rattle.std.specs.Prelude.{Bool, ◌&&◌, ◌||◌, List, ℕ, ◌+◌, eqb, leb, ltb}
+use Rattle.laws.specs.Below.{all_below, sum_below}
+use Rattle.laws.specs.Lists.{zero_from}
+use Rattle.laws.specs.Signed.{is_zero}
+use Rattle.image.specs.Image.{nodes, channels, from, to, stations, depth}
+use Rattle.relay.specs.Station.{clear}
+use Rattle.state.specs.declared.State.{State}
+use Rattle.state.specs.State.{value_at, firings_at, mark_at, station_at, queue_at}
+
+module _ (img : List ℕ) (s : State) where
+  -- "the cycle count is at most 1,000,000;"
+  unfoldable pub cycles_fit : Bool
+  cycles_fit = leb s.cycles 1000000
+
+  -- "firings are at most the cycle count;"
+  unfoldable pub firings_fit : Bool
+  firings_fit = all_below (λ n. leb (firings_at s n) s.cycles) (nodes img)
+
+  -- "pending marks are 0 or 1;"
+  unfoldable pub marks_fit : Bool
+  marks_fit = all_below (λ c. leb (mark_at s c) 1) (channels img)
+
+  -- "station and queue counts are within their depths;"
+  unfoldable pub stations_fit : ℕ → Bool
+  stations_fit c = all_below (λ j. leb (station_at s c j).count 2) (stations img c)
+
+  unfoldable pub counts_fit : Bool
+  counts_fit = all_below (λ c. stations_fit c && leb (queue_at s c).count (depth img c)) (channels img)
+
+  -- "every place that no node below N, channel below C, station of the image or held token uses is 0;": the places of node n, of channel c's mark,
+  -- of its station j and of its queue
+  unfoldable pub node_clear : ℕ → Bool
+  node_clear n = ltb n (nodes img) || (is_zero (value_at s n) && eqb (firings_at s n) 0)
+
+  unfoldable pub mark_clear : ℕ → Bool
+  mark_clear c = ltb c (channels img) || eqb (mark_at s c) 0
+
+  unfoldable pub station_clear : ℕ → ℕ → Bool
+  station_clear c j =
+      clear (station_at s c j) && ((ltb c (channels img) && ltb j (stations img c)) || eqb (station_at s c j).count 0)
+
+  unfoldable pub queue_clear : ℕ → Bool
+  queue_clear c = zero_from 8 (queue_at s c).count (queue_at s c).tokens && (ltb c (channels img) || eqb (queue_at s c).count 0)
+
+  unfoldable pub unused_clear : Bool
+  unused_clear = all_below node_clear 64 && all_below (λ c. mark_clear c && all_below (station_clear c) 8 && queue_clear c) 96
+
+  -- "and for each channel, pending + stations + queue = firings of from + 1 − firings of to." What is taken away on the right is added on the left,
+  -- so that a state where it is too much does not pass
+  unfoldable pub balanced : ℕ → Bool
+  balanced c =
+      eqb (mark_at s c + sum_below (λ j. (station_at s c j).count) (stations img c) + (queue_at s c).count + firings_at s (to img c))
+      (firings_at s (from img c) + 1)
+
+  unfoldable pub fits : Bool
+  fits = cycles_fit && firings_fit && marks_fit && counts_fit && unused_clear && all_below balanced (channels img)

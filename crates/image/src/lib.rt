@@ -1,0 +1,124 @@
+// The image of a netlist: its fields, each where it stands among the bytes. Every reader is total: a field past the
+// image's end is 0.
+#![tactic(auto)]
+
+ghost use Rattle.std.specs.Prelude.{◌≡◌, get_or};
+ghost use Rattle.laws.specs.Signed.{signed};
+ghost use Rattle.image.specs.Image.{nodes, channels, kind, four_bytes, inputs};
+ghost use Rattle.image.specs.Readers.{core_at, channel_at};
+
+// A node's fields. The kind is a number, 1 to 9 in an accepted image: one that the judge has not looked at may
+// be no kind.
+#[derive(Clone, Copy)]
+pub struct Core {
+    pub kind: u8,
+    pub parameter: i32,
+}
+
+// A channel's fields: the nodes at its ends, the input port of the node that it leads to, how many
+// relay stations stand on it, and the depth of the queue at its end.
+#[derive(Clone, Copy)]
+pub struct Channel {
+    pub from: u8,
+    pub to: u8,
+    pub port: u8,
+    pub stations: u8,
+    pub depth: u8,
+}
+
+// The byte at a place, 0 past the end.
+fn byte_at(image: &[u8], at: usize) -> u8
+    ensures { result ≡ get_or image.now at 0 }
+{
+    image.get(at).copied().unwrap_or(0)
+}
+
+// N, 0 for an empty image.
+#[tactic(auto, unfolding(crate::specs::Image::nodes))]
+pub fn nodes(image: &[u8]) -> u8
+    ensures { result ≡ nodes image.now }
+{
+    byte_at(image, 0)
+}
+
+// C, 0 for an image under two bytes.
+#[tactic(auto, unfolding(crate::specs::Image::channels))]
+pub fn channels(image: &[u8]) -> u8
+    ensures { result ≡ channels image.now }
+{
+    byte_at(image, 1)
+}
+
+// Node n's kind.
+#[tactic(auto, unfolding(crate::specs::Image::kind))]
+pub fn kind_at(image: &[u8], n: u8) -> u8
+    ensures { result ≡ kind image.now n }
+{
+    byte_at(image, 2 + n as usize)
+}
+
+// The four bytes at a place as a number, low byte first, each 0 past the end. For other crates: to read numbers
+// that are kept as bytes.
+pub fn four_bytes(image: &[u8], at: usize) -> u32
+    ensures { result ≡ four_bytes image.now at }
+{
+    if image.len() <= at {
+        return 0;
+    }
+    let bytes = [
+        byte_at(image, at),
+        byte_at(image, at + 1),
+        byte_at(image, at + 2),
+        byte_at(image, at + 3),
+    ];
+    u32::from_le_bytes(bytes)
+}
+
+// The signed number of the same 32 bits. For other crates: to read tokens that are kept as bytes.
+#[tactic(auto, unfolding(laws::specs::Signed::signed))]
+pub fn as_signed(n: u32) -> i32
+    ensures { result ≡ signed n }
+{
+    n.cast_signed()
+}
+
+// Node n's fields, each 0 past the image's end.
+#[tactic(auto, unfolding(crate::specs::Readers::core_at, crate::specs::Image::parameter))]
+pub fn core_at(image: &[u8], n: u8) -> Core
+    ensures { result ≡ core_at image.now n }
+{
+    let parameter = four_bytes(image, 2 + nodes(image) as usize + 4 * n as usize);
+    Core {
+        kind: kind_at(image, n),
+        parameter: as_signed(parameter),
+    }
+}
+
+// Channel c's fields, each 0 past the image's end.
+#[tactic(auto, unfolding(crate::specs::Readers::channel_at, crate::specs::Image::from, crate::specs::Image::to, crate::specs::Image::port, crate::specs::Image::stations, crate::specs::Image::depth, crate::specs::Image::wire, crate::specs::Image::depths))]
+pub fn channel_at(image: &[u8], c: u8) -> Channel
+    ensures { result ≡ channel_at image.now c }
+{
+    let i = c as usize;
+    let wires = 2 + 5 * nodes(image) as usize;
+    let wire = wires + 3 * i;
+    let depths = wires + 3 * channels(image) as usize + 2 * i;
+    Channel {
+        from: byte_at(image, wire),
+        to: byte_at(image, wire + 1),
+        port: byte_at(image, wire + 2),
+        stations: byte_at(image, depths),
+        depth: byte_at(image, depths + 1),
+    }
+}
+
+// By number, 0 for what is no kind: the judge asks before it knows that a kind is one, and needs no pearls.
+const INPUTS: [u8; 10] = [0, 0, 1, 1, 1, 1, 2, 2, 2, 3];
+
+// How many inputs a node of a kind has, 0 for a number that is no kind.
+#[tactic(auto, unfolding(crate::specs::Image::inputs))]
+pub fn inputs(kind: u8) -> u8
+    ensures { result ≡ inputs kind }
+{
+    INPUTS.get(kind as usize).copied().unwrap_or(0)
+}

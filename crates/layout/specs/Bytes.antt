@@ -1,0 +1,104 @@
+-- A state and station records as bytes: how they are written, and what bytes are read as. Each number stands low byte first, a signed one in two's
+-- complement.
+use mathlib.Core.List.{List, [], ◌∷◌, ◌++◌, flat_map}
+use Rattle.std.specs.Prelude.{ℕ, suc, ◌+◌, ◌*◌, ◌-◌, ◌/◌, ◌%◌, ◌^◌, eqb, leb, ℤ, pos, negsuc, length, get_or}
+use Rattle.laws.specs.Choice.{◌if◌else◌}
+use Rattle.laws.specs.Signed.{signed}
+use Rattle.laws.specs.Table.{table}
+use Rattle.image.specs.Image.{four_bytes}
+use Rattle.relay.specs.declared.Station.{Station}
+use Rattle.relay.specs.RowCycle.{no_station}
+use Rattle.shell.specs.declared.Queue.{Queue}
+use Rattle.state.specs.declared.Node.{Node}
+use Rattle.state.specs.declared.State.{State}
+use Rattle.state.specs.State.{node_at, mark_at, queue_at}
+use Rattle.state.specs.Fresh.{zeros}
+
+-- ---- written
+-- a number of 32 bits
+unfoldable pub word_bytes : ℕ → List ℕ
+word_bytes n = n % 2 ^ 8 ∷ n / 2 ^ 8 % 2 ^ 8 ∷ n / 2 ^ 16 % 2 ^ 8 ∷ n / 2 ^ 24 % 2 ^ 8 ∷ []
+
+-- the number of the same 32 bits as a signed one
+unfoldable pub bits_of : ℤ → ℕ
+bits_of (pos n) = n
+bits_of (negsuc n) = 2 ^ 32 - suc n
+
+unfoldable pub token_bytes : ℤ → List ℕ
+token_bytes value = word_bytes (bits_of value)
+
+-- a node: its value, its firings
+unfoldable pub node_bytes : Node → List ℕ
+node_bytes n = token_bytes n.value ++ word_bytes n.firings
+
+-- the bytes of g 0, g 1, .., g (n - 1), one after another
+abbrev pub each : {A : Type 0} → (A → List ℕ) → (ℕ → A) → ℕ → List ℕ
+each f g n = flat_map f (table g n)
+
+-- a station and a queue: their tokens, oldest first, and how many they hold
+unfoldable pub station_bytes : Station → List ℕ
+station_bytes s = each token_bytes (λ i. get_or s.tokens i (pos 0)) 2 ++ (s.count ∷ [])
+
+unfoldable pub queue_bytes : Queue → List ℕ
+queue_bytes q = each token_bytes (λ i. get_or q.tokens i (pos 0)) 8 ++ (q.count ∷ [])
+
+-- a state: the cycle count, the nodes, the pending marks, the stations, the queues
+unfoldable pub state_bytes : State → List ℕ
+state_bytes s =
+    word_bytes s.cycles ++ (
+    each node_bytes (node_at s) 64 ++ (
+    table (mark_at s) 96 ++ (
+    each station_bytes (λ i. get_or s.stations i no_station) 768 ++
+    each queue_bytes (queue_at s) 96)))
+
+-- how many bytes that is
+abbrev pub state_length : ℕ
+state_length = 10692
+
+-- ---- read, from a place on
+unfoldable pub token_in : List ℕ → ℕ → ℤ
+token_in bytes at = signed (four_bytes bytes at)
+
+unfoldable pub node_in : List ℕ → ℕ → Node
+node_in bytes at = record { value = token_in bytes at; firings = four_bytes bytes (at + 4) }
+
+unfoldable pub station_in : List ℕ → ℕ → Station
+station_in bytes at = record { tokens = token_in bytes at ∷ token_in bytes (at + 4) ∷ []; count = get_or bytes (at + 8) 0 }
+
+unfoldable pub queue_in : List ℕ → ℕ → Queue
+queue_in bytes at = record { tokens = table (λ i. token_in bytes (at + 4 * i)) 8; count = get_or bytes (at + 32) 0 }
+
+-- the places of a state
+unfoldable pub places_in : List ℕ → State
+places_in bytes =
+    record {
+      cycles = four_bytes bytes 0;
+      nodes = table (λ n. node_in bytes (4 + 8 * n)) 64;
+      pending = table (λ c. get_or bytes (516 + c) 0) 96;
+      stations = table (λ i. station_in bytes (612 + 9 * i)) 768;
+      queues = table (λ c. queue_in bytes (7524 + 33 * c)) 96;
+    }
+
+-- the state that bytes are. Of any other length they are none: they are read as one that fits no image, by its cycle count
+unfoldable pub no_state : State
+no_state = record { cycles = 1000001; nodes = zeros.nodes; pending = zeros.pending; stations = zeros.stations; queues = zeros.queues }
+
+unfoldable pub state_in : List ℕ → State
+state_in bytes = places_in bytes if eqb (length bytes) state_length else no_state
+
+-- a record alone. Of any other length bytes are no record: they are read as one that fits no bench, by its count
+unfoldable pub no_record : Station
+no_record = record { tokens = pos 0 ∷ pos 0 ∷ []; count = 3 }
+
+unfoldable pub record_in : List ℕ → Station
+record_in bytes = station_in bytes 0 if eqb (length bytes) 9 else no_record
+
+-- a row of records one after another. If the last is not whole, it fits no bench either
+unfoldable pub row_record : List ℕ → ℕ → Station
+row_record bytes i = station_in bytes (9 * i) if leb (9 * i + 9) (length bytes) else no_record
+
+unfoldable pub record_count : List ℕ → ℕ
+record_count bytes = (length bytes + 8) / 9
+
+unfoldable pub row_in : List ℕ → List Station
+row_in bytes = table (row_record bytes) (record_count bytes)

@@ -1,7 +1,0 @@
--- `tracer::image_length` meets its contract. Assumes nothing.
-use native.Mathlib.Omega.{arith}
-use Rattle.tracer.specs.InputLaws.{image_counts}
-use Rattle.tracer.proofs.image_length.Goals as goal
-
-pub returns-clause-value : goal.returns-clause-value
-returns-clause-value c = (image_counts c.args.input.now _ (omega (arith, c.min.ensures, c.image_due.ensures))).0

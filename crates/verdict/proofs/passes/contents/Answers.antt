@@ -1,0 +1,115 @@
+-- `netlist::passes::contents` meets its contract: at each return the tests for the numbers before it have failed. Assumes nothing.
+use Rattle.std.proofs.Common.{rules, tests, Bool, true, false, List, ℕ, arith, ◌≡◌, ◌≤◌, sym, ◌∙◌, refl}
+use Rattle.std.proofs.lemmas.Iterator.{YieldsList-from_range}
+use Rattle.std.proofs.lemmas.Iterator.Search.{any_from_yields_List}
+use Rattle.laws.specs.Below.{any_below}
+use Rattle.laws.specs.BelowLaws.{any_range}
+use Rattle.laws.specs.Choice.{◌if◌else◌}
+use Rattle.laws.specs.ChoiceLaws.{past}
+use Rattle.refusal.specs.declared.Refusal.{Refusal}
+use Rattle.refusal.specs.Number.{number}
+use Rattle.refusal.specs.NumberLaws.{number_positive}
+use Rattle.image.specs.Image.{nodes, channels}
+use Rattle.verdict.specs.Judge.{judge, bad_kind, bad_wire, bad_port}
+use Rattle.verdict.specs.JudgeLaws.{sizes_ok}
+use Rattle.verdict.specs.Passes.{depth_number, marks_below, twice_below, misses}
+use Rattle.verdict.specs.Clear.{Sized}
+use Rattle.image.specs.Ports.{Wired}
+use Rattle.verdict.specs.PassesLaws.{wired, twice_is, misses_is}
+use Rattle.verdict.proofs.passes.contents.Goals.{After-any, After-any-2, After-any-3, After-any-4}
+use Rattle.verdict.proofs.passes.contents.Goals as goal
+
+-- what a pass found
+four : (c : After-any) → any_below (bad_kind c.args.image.now) (nodes c.args.image.now) ≡ c.any.result
+four c =
+    sym (any_from_yields_List (bad_kind c.args.image.now) _ _ _ c.any.ensures.ran
+    (YieldsList-from_range 0 _ (nodes c.args.image.now) refl (omega (arith, c.nodes-nodes.ensures))) (λ x b q k. search (rules, tests)) ∙ any_range _ _)
+
+five : (c : After-any-2) → any_below (bad_wire c.args.image.now) (channels c.args.image.now) ≡ c.any-2.result
+five c =
+    sym (any_from_yields_List (bad_wire c.args.image.now) _ _ _ c.any-2.ensures.ran
+    (YieldsList-from_range 0 _ (channels c.args.image.now) refl (omega (arith, c.channels-channels.ensures))) (λ x b q k. search (rules, tests)) ∙ any_range _ _)
+
+six : (c : After-any-3) → any_below (bad_port c.args.image.now) (channels c.args.image.now) ≡ c.any-3.result
+six c =
+    sym (any_from_yields_List (bad_port c.args.image.now) _ _ _ c.any-3.ensures.ran
+    (YieldsList-from_range 0 _ (channels c.args.image.now) refl (omega (arith, c.channels-channels.ensures))) (λ x b q k. search (rules, tests)) ∙ any_range _ _)
+
+-- where 4, 5 and 6 have no cause
+module _ (img : List ℕ) (sized : Sized img) (no_4 : any_below (bad_kind img) (nodes img) ≡ false)
+    (no_5 : any_below (bad_wire img) (channels img) ≡ false) (no_6 : any_below (bad_port img) (channels img) ≡ false) where
+  few : nodes img ≤ 64
+  few = ((sizes_ok img).0 sized.no_2).1
+
+  -- every port that is fed has a place
+  places : Wired img (channels img)
+  places = wired img (channels img) few no_5 no_6
+
+  -- 7, 8 and the depths are left, and the tests for 7 and 8 are the definition's
+  left : (ports : List Bool) → ports ≡ marks_below img (channels img)
+      → judge img ≡ (7 if twice_below img (channels img) else 8 if any_below (misses img ports) (nodes img) else depth_number img)
+  unfolding judge depth_number
+  left ports e =
+      rw (sized.no_1, sized.no_2, sized.no_3, no_4, no_5, no_6, e, twice_is img (channels img) places, misses_is img few places)
+
+pub returns-then-any : goal.returns-then-any
+unfolding judge
+returns-then-any c =
+    let a = goal.at.returns-then-any c in
+    rw (c.requires.no_1, c.requires.no_2, c.requires.no_3, four a.After-any ∙ c.if-any.true)
+
+pub returns-then-any-2 : goal.returns-then-any-2
+unfolding judge
+returns-then-any-2 c =
+    let a = goal.at.returns-then-any-2 c in
+    rw (c.requires.no_1, c.requires.no_2, c.requires.no_3, four a.After-any ∙ c.if-any.false, five a.After-any-2 ∙ c.if-any-2.true)
+
+pub returns-then-any-3 : goal.returns-then-any-3
+unfolding judge
+returns-then-any-3 c =
+    let a = goal.at.returns-then-any-3 c in
+    rw (c.requires.no_1, c.requires.no_2, c.requires.no_3, four a.After-any ∙ c.if-any.false, five a.After-any-2 ∙ c.if-any-2.false, six a.After-any-3 ∙ c.if-any-3.true)
+
+pub feed_ports-requires : goal.feed_ports-requires
+feed_ports-requires c =
+    let a = goal.at.feed_ports-requires c in
+    places c.args.image.now c.requires (four a.After-any ∙ c.if-any.false) (five a.After-any-2 ∙ c.if-any-2.false) (six a.After-any-3 ∙ c.if-any-3.false)
+
+-- a refusal's number is the chain's, where it is that of the first test
+first : (r : Refusal) (test : Bool) (later : ℕ) → number r ≡ (7 if test else 0) → (7 if test else later) ≡ number r
+first r true later e = sym e
+first r false later e = let h = number_positive r in absurd (omega arith)
+
+pub returns-in_err-ports : goal.returns-in_err-ports
+returns-in_err-ports c =
+    let a = goal.at.returns-in_err-ports c in
+    let r = c.in_err-ports.field-0.0 in
+    let refused : judge c.args.image.now ≡ number r =
+    rw (left c.args.image.now c.requires (four a.After-any ∙ c.if-any.false) (five a.After-any-2 ∙ c.if-any-2.false) (six a.After-any-3 ∙ c.if-any-3.false) _ refl)
+    (first r _ _ c.in_err-ports.ensures.number) in
+    rw refused (search rules)
+
+-- and that for 8
+eight : (c : After-any-4) → any_below (misses c.args.image.now c.in_ok-ports.ports) (nodes c.args.image.now) ≡ c.any-4.result
+eight c =
+    sym (any_from_yields_List (misses c.args.image.now _) _ _ _ c.any-4.ensures.ran
+    (YieldsList-from_range 0 _ (nodes c.args.image.now) refl (omega (arith, c.nodes-nodes.ensures))) (λ x b q k. search (rules, tests)) ∙ any_range _ _)
+
+pub returns-then-any-4 : goal.returns-then-any-4
+returns-then-any-4 c =
+    let a = goal.at.returns-then-any-4 c in
+    rw (
+      left c.args.image.now c.requires (four a.After-any ∙ c.if-any.false) (five a.After-any-2 ∙ c.if-any-2.false) (six a.After-any-3 ∙ c.if-any-3.false) _ c.in_ok-ports.ensures.marks,
+      (past 6 0 _ (sym c.in_ok-ports.ensures.number)).0,
+      eight a.After-any-4 ∙ c.if-any-4.true,
+    )
+
+pub returns : goal.returns
+returns c =
+    let a = goal.at.returns c in
+    rw (
+      left c.args.image.now c.requires (four a.After-any ∙ c.if-any.false) (five a.After-any-2 ∙ c.if-any-2.false) (six a.After-any-3 ∙ c.if-any-3.false) _ c.in_ok-ports.ensures.marks,
+      (past 6 0 _ (sym c.in_ok-ports.ensures.number)).0,
+      eight a.After-any-4 ∙ c.if-any-4.false,
+    )
+    c.judge_depths.ensures

@@ -1,0 +1,55 @@
+-- The judge: "Order: 1 to 11 rising, each over the whole image."
+use Rattle.std.specs.Prelude.{Bool, not, ◌||◌, List, ℕ, ◌+◌, ◌*◌, eqb, leb, ltb, length}
+use Rattle.laws.specs.Below.{any_below, sum_below}
+use Rattle.laws.specs.Choice.{◌if◌else◌}
+use Rattle.laws.specs.Range.{outside}
+use Rattle.image.specs.Image.{nodes, channels, kind, from, to, port, feeds, stations, depth, inputs}
+
+-- 4, of node n: "kind not 1 to 9"
+unfoldable pub bad_kind : List ℕ → ℕ → Bool
+bad_kind img n = outside 1 9 (kind img n)
+
+-- 5, of channel c: "wire names a node not there"
+unfoldable pub bad_wire : List ℕ → ℕ → Bool
+bad_wire img c = leb (nodes img) (from img c) || leb (nodes img) (to img c)
+
+-- 6, of channel c: "port not below the to node's inputs"
+unfoldable pub bad_port : List ℕ → ℕ → Bool
+bad_port img c = leb (inputs (kind img (to img c))) (port img c)
+
+-- 7, of channel c: "a port fed twice", by c and by a channel before it
+unfoldable pub fed_twice : List ℕ → ℕ → Bool
+fed_twice img c = any_below (feeds img (to img c) (port img c)) c
+
+-- 8, of node n: "a port not fed"
+unfoldable pub not_fed : List ℕ → ℕ → Bool
+not_fed img n = any_below (λ p. not (any_below (feeds img n p) (channels img))) (inputs (kind img n))
+
+-- 9, of channel c: "stations over 8"
+unfoldable pub bad_stations : List ℕ → ℕ → Bool
+bad_stations img c = ltb 8 (stations img c)
+
+-- 10, of channel c: "queue 0 or over 8"
+unfoldable pub bad_depth : List ℕ → ℕ → Bool
+bad_depth img c = outside 1 8 (depth img c)
+
+-- 0 where the image is accepted, else the first of the numbers 1 to 11 whose condition holds somewhere in it
+unfoldable pub judge : List ℕ → ℕ
+judge img =
+    -- image under 2 bytes
+    1 if ltb (length img) 2 else
+    -- N is 0 or over 64, or C over 96
+    2 if outside 1 64 (nodes img) || ltb 96 (channels img) else
+    -- length not 2 + 5N + 5C
+    3 if not (eqb (length img) (2 + 5 * nodes img + 5 * channels img)) else
+    -- each of these at some node or channel
+    4 if any_below (bad_kind img) (nodes img) else
+    5 if any_below (bad_wire img) (channels img) else
+    6 if any_below (bad_port img) (channels img) else
+    7 if any_below (fed_twice img) (channels img) else
+    8 if any_below (not_fed img) (nodes img) else
+    9 if any_below (bad_stations img) (channels img) else
+    10 if any_below (bad_depth img) (channels img) else
+    -- over 256 stations in all
+    11 if ltb 256 (sum_below (stations img) (channels img)) else
+    0

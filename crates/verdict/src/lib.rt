@@ -1,0 +1,39 @@
+// The judge: whether an image is a netlist, and if not, why.
+#![tactic(auto)]
+
+mod passes;
+
+ghost use Rattle.std.specs.Prelude.{◌||◌, ◌≡◌, ltb};
+ghost use Rattle.laws.specs.Range.{outside};
+ghost use Rattle.refusal.specs.Number.{number_of};
+ghost use Rattle.verdict.specs.Judge.{judge};
+
+use image::{channels, nodes};
+use refusal::Refusal;
+
+// Number 2: whether N is not 1 to 64, or C is over 96. Two tests, here and in `passes`, and no range's
+// `contains`: the definition, `outside`, is these two.
+fn bad_sizes(n: u8, c: u8) -> bool
+    ensures { result ≡ (outside 1 64 n || ltb 96 c) }
+{
+    ((n < 1) | (64 < n)) | (96 < c)
+}
+
+// The judge: the first of the refusals 1 to 11 that has a cause in the image, if one has.
+#[tactic(auto, unfolding(crate::specs::Judge::judge))]
+pub fn judge(image: &[u8]) -> Result<(), Refusal>
+    ensures { number_of result ≡ judge image.now }
+{
+    if image.len() < 2 {
+        return Err(Refusal::Short);
+    }
+    let n = nodes(image);
+    let c = channels(image);
+    if bad_sizes(n, c) {
+        return Err(Refusal::Sizes);
+    }
+    if image.len() != 2 + 5 * n as usize + 5 * c as usize {
+        return Err(Refusal::Length);
+    }
+    passes::contents(image)
+}

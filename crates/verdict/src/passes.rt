@@ -1,0 +1,143 @@
+// The judge's tests of an image whose length fits its sizes. Each is settled over all nodes or all channels
+// before the next is looked at. All but `feed_ports` ask for nothing: what lies past
+// the image's end is 0.
+ghost use Rattle.std.specs.Prelude.{◌≡◌, IfOk};
+ghost use Rattle.laws.specs.Below.{any_below, sum_below};
+ghost use Rattle.laws.specs.Choice.{◌if◌else◌};
+ghost use Rattle.refusal.specs.Number.{number_of};
+ghost use Rattle.image.specs.Image.{channels, stations};
+ghost use Rattle.verdict.specs.Judge.{bad_kind, bad_wire, bad_port, bad_stations, bad_depth, judge};
+ghost use Rattle.image.specs.Ports.{Wired};
+ghost use Rattle.verdict.specs.Clear.{Sized};
+ghost use Rattle.verdict.specs.Passes.{depth_number, marks_below, twice_below, misses};
+
+use image::{channel_at, channels, inputs, kind_at, nodes};
+use refusal::Refusal;
+
+// Number 4, of node n.
+#[tactic(auto, unfolding(crate::specs::Judge::bad_kind))]
+fn bad_kind(image: &[u8], n: u8) -> bool
+    ensures { result ≡ bad_kind image.now n }
+{
+    let kind = kind_at(image, n);
+    (kind < 1) | (9 < kind)
+}
+
+// Number 5, of channel c.
+#[tactic(auto, unfolding(crate::specs::Judge::bad_wire, image::specs::Readers::channel_at))]
+fn bad_wire(image: &[u8], c: u8) -> bool
+    ensures { result ≡ bad_wire image.now c }
+{
+    let nodes = nodes(image);
+    let channel = channel_at(image, c);
+    (nodes <= channel.from) | (nodes <= channel.to)
+}
+
+// Number 6, of channel c.
+#[tactic(auto, unfolding(crate::specs::Judge::bad_port, image::specs::Readers::channel_at))]
+fn bad_port(image: &[u8], c: u8) -> bool
+    ensures { result ≡ bad_port image.now c }
+{
+    let channel = channel_at(image, c);
+    inputs(kind_at(image, channel.to)) <= channel.port
+}
+
+// The ports that are fed, 3 places a node as the definition has them, if none is fed twice: number 7.
+fn feed_ports(image: &[u8]) -> Result<[bool; 192], Refusal>
+    requires { Wired image.now (channels image.now) }
+    ensures number { number_of result ≡ (7 if twice_below image.now (channels image.now) else 0) }
+    ensures marks { IfOk result (λ ports. ports ≡ marks_below image.now (channels image.now)) }
+{
+    let c = channels(image);
+    let mut ports = [false; 192];
+    for i in 0..c {
+        let w = channel_at(image, i);
+        let at = 3 * w.to as usize + w.port as usize;
+        if ports[at] {
+            return Err(Refusal::FedTwice);
+        }
+        ports[at] = true;
+    }
+    Ok(ports)
+}
+
+// Number 8, of node n: whether a port of it is not among those fed.
+#[tactic(auto, unfolding(crate::specs::Passes::misses))]
+fn misses_port(image: &[u8], ports: &[bool; 192], n: u8) -> bool
+    ensures { result ≡ misses image.now ports.now n }
+{
+    let first = 3 * n as usize;
+    (0..inputs(kind_at(image, n))).any(|p| {
+        !ports.get(first + p as usize).copied().unwrap_or(false)
+    })
+}
+
+// Number 9, of channel c.
+#[tactic(auto, unfolding(crate::specs::Judge::bad_stations, image::specs::Readers::channel_at))]
+fn bad_stations(image: &[u8], c: u8) -> bool
+    ensures { result ≡ bad_stations image.now c }
+{
+    8 < channel_at(image, c).stations
+}
+
+// Number 10, of channel c.
+#[tactic(auto, unfolding(crate::specs::Judge::bad_depth, image::specs::Readers::channel_at))]
+fn bad_depth(image: &[u8], c: u8) -> bool
+    ensures { result ≡ bad_depth image.now c }
+{
+    let depth = channel_at(image, c).depth;
+    (depth < 1) | (8 < depth)
+}
+
+// The stations on all channels, for number 11. No `sum`: that each addition fits is the loop's invariant.
+#[tactic(auto, unfolding(image::specs::Readers::channel_at))]
+fn all_stations(image: &[u8]) -> u32
+    ensures { result ≡ sum_below (stations image.now) (channels image.now) }
+{
+    let mut total = 0;
+    for c in 0..channels(image) {
+        total += channel_at(image, c).stations as u32;
+    }
+    total
+}
+
+// Numbers 9 to 11.
+#[tactic(auto, unfolding(crate::specs::Passes::depth_number))]
+fn judge_depths(image: &[u8]) -> Result<(), Refusal>
+    ensures { number_of result ≡ depth_number image.now }
+{
+    let channels = channels(image);
+    if (0..channels).any(|c| bad_stations(image, c)) {
+        return Err(Refusal::Stations);
+    }
+    if (0..channels).any(|c| bad_depth(image, c)) {
+        return Err(Refusal::Depth);
+    }
+    if 256 < all_stations(image) {
+        return Err(Refusal::Total);
+    }
+    Ok(())
+}
+
+// Numbers 4 to 11, of an image that has none of 1 to 3.
+pub(crate) fn contents(image: &[u8]) -> Result<(), Refusal>
+    requires { Sized image.now }
+    ensures { number_of result ≡ judge image.now }
+{
+    let nodes = nodes(image);
+    let channels = channels(image);
+    if (0..nodes).any(|n| bad_kind(image, n)) {
+        return Err(Refusal::Kind);
+    }
+    if (0..channels).any(|c| bad_wire(image, c)) {
+        return Err(Refusal::Wire);
+    }
+    if (0..channels).any(|c| bad_port(image, c)) {
+        return Err(Refusal::Port);
+    }
+    let ports = feed_ports(image)?;
+    if (0..nodes).any(|n| misses_port(image, &ports, n)) {
+        return Err(Refusal::NotFed);
+    }
+    judge_depths(image)
+}

@@ -1,0 +1,105 @@
+-- The words of the token rule, computed; and that its premise can be met.
+use Rattle.std.specs.Prelude.{true, List, [], ◌∷◌, ◌≡◌, refl, ℕ, ℤ, pos, replicate}
+use Rattle.laws.specs.Below.{all_below, any_below, most_below, pick_below}
+use Rattle.laws.specs.Signed.{signed}
+use Rattle.laws.specs.Lists.{padded}
+use Rattle.laws.specs.Table.{table}
+use Rattle.image.specs.Image.{nodes, channels, kind, parameter, wire, from, to, port, feeds, depths, stations, depth}
+use Rattle.worked_examples.specs.Netlist.{figure4, ring}
+use Rattle.pearl.specs.Wrap.{wrap}
+use Rattle.pearl.specs.Next.{exact, next_value}
+use Rattle.node.specs.Node.{port_value, next_of}
+use Rattle.relay.specs.Link.{letter, reading}
+use Rattle.relay.specs.Station.{held, station_of, place_after}
+use Rattle.relay.specs.Row.{stopped, leaving, row_after}
+use Rattle.shell.specs.Queue.{waiting, queue_of, full}
+use Rattle.shell.specs.Channel.{blocked, arriving, input, stop_below, stop_above, seen, channel_after}
+use Rattle.state.specs.declared.State.{State}
+use Rattle.state.specs.State.{node_at, mark_at, station_at, queue_at, channel_in, state_of}
+use Rattle.state.specs.Fresh.{fresh_state, zeros}
+use Rattle.cycle.specs.Cycle.{stalled, input_at, blocked_at, seen_at, all_ready, any_blocked, fires, node_after, channel_next, state_after}
+use Rattle.engine.specs.Answer.{sets_above, step_answer, letters_written, values_written, run_answer}
+use Rattle.token_rule.specs.Cycles.{fired_in, arrivals}
+use Rattle.token_rule.specs.Calls.{Call, step, run, returned, Done, Chain, goes, roomy, makes, run_cycles, cycles_in, cycles_of}
+use Rattle.token_rule.specs.Progress.{most_stations, Awake}
+
+-- ---- the cycles of a list. They follow from what the calls are given, so the answers are left blank here: a step with its word and the lengths of
+-- its arrays, and a run
+abbrev asked : ℕ → ℕ → ℕ → Call
+asked w letters values =
+    step
+    record {
+      word = w;
+      letters = replicate letters 0;
+      values = replicate values (pos 0);
+      answer = record { number = 0; state = zeros };
+      letters_left = [];
+      values_left = [];
+    }
+
+abbrev told : List ℕ → Call
+told words = run record { words = words; answer = record { steps = 0; number = 0; state = zeros } }
+
+-- figure 4 has 5 nodes and 4 channels. A step makes its cycle; a word with bit 5, an array of 3 places, and the rest of a run after such a word make
+-- none; the list goes on. The last cycle is the 1,000,000th
+made :
+    (cycles_of figure4 0 (asked 1 4 4 ∷ asked 32 4 4 ∷ asked 0 3 4 ∷ asked 0 4 3 ∷ told (0 ∷ 16 ∷ 32 ∷ 0 ∷ []) ∷ asked 3 9 4 ∷ []) ≡
+    1 ∷ 0 ∷ 16 ∷ 3 ∷ [])
+    × (cycles_of figure4 999998 (told (0 ∷ []) ∷ told (1 ∷ 2 ∷ []) ∷ asked 0 4 4 ∷ []) ≡ 0 ∷ 1 ∷ [])
+unfolding nodes channels sets_above goes roomy makes run_cycles cycles_in cycles_of
+made = (refl, refl)
+
+-- ---- every list of calls can be answered so that it is a chain: what a call is given, and the call that the definitions make of it
+data Given : Type 0 where
+  a_step : ℕ → List ℕ → List ℤ → Given
+  a_run : List ℕ → Given
+
+abbrev answered : List ℕ → State → Given → Call
+answered img s (a_step w letters values) =
+    step
+    record {
+      word = w;
+      letters = letters;
+      values = values;
+      answer = step_answer img s w letters values;
+      letters_left = letters_written img s w letters values;
+      values_left = values_written img s w letters values;
+    }
+answered img s (a_run words) = run record { words = words; answer = run_answer img s words }
+
+abbrev answers : List ℕ → State → List Given → List Call
+answers img s [] = []
+answers img s (g ∷ gs) = answered img s g ∷ answers img (returned (answered img s g)) gs
+
+some_chain : (img : List ℕ) (s : State) (gs : List Given) → Chain img s (answers img s gs)
+unfolding Chain Done
+some_chain img s [] = tt
+some_chain img s (a_step w letters values ∷ gs) =
+    (record { answered = refl; lettered = refl; valued = refl }, some_chain img (returned (answered img s (a_step w letters values))) gs)
+some_chain img s (a_run words ∷ gs) = (record { answered = refl }, some_chain img (returned (answered img s (a_run words))) gs)
+
+-- ---- figure 4's eleven cycles: what has arrived on channel 1, where 105 stood a cycle before it passed, and the firings of node 0
+words : List ℕ
+words = 1 ∷ 0 ∷ 0 ∷ 16 ∷ 0 ∷ 0 ∷ 3 ∷ 3 ∷ 8 ∷ 0 ∷ 0 ∷ []
+
+came :
+    (arrivals figure4 (fresh_state figure4) words 1 ≡ pos 100 ∷ pos 101 ∷ pos 102 ∷ pos 103 ∷ pos 104 ∷ pos 105 ∷ pos 106 ∷ pos 107 ∷ [])
+    × (fired_in figure4 (fresh_state figure4) words 0 ≡ 8)
+unfolding all_below any_below pick_below signed padded table
+    nodes channels kind parameter wire from to port feeds depths stations depth wrap exact next_value port_value next_of
+    letter reading held station_of place_after stopped leaving row_after
+    waiting queue_of full blocked arriving input stop_below stop_above seen channel_after
+    node_at mark_at station_at queue_at channel_in state_of fresh_state
+    stalled input_at blocked_at seen_at all_ready any_blocked fires node_after channel_next state_after
+    words fired_in arrivals
+came = (refl, refl)
+
+-- ---- R: figure 4 has no stations, the ring has 3 and 8, and one count node has no channels
+largest : (most_stations figure4 ≡ 0) × (most_stations ring ≡ 8) × (most_stations (1 ∷ 0 ∷ 1 ∷ 5 ∷ 0 ∷ 0 ∷ 0 ∷ []) ≡ 0)
+unfolding nodes channels depths stations most_below most_stations
+largest = (refl, refl, refl)
+
+-- words 1, 4 and 5 do not stall node 1; word 2 does
+free : Awake 1 (1 ∷ 4 ∷ 5 ∷ []) × (stalled 2 1 ≡ true)
+unfolding stalled Awake
+free = ((refl, (refl, (refl, tt))), refl)

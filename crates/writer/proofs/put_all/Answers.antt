@@ -1,0 +1,17 @@
+-- `writer::put_all` meets its contract. Assumes nothing.
+use native.Mathlib.Omega.{arith}
+use Rattle.writer.specs.ItemsLaws.{put_nothing, put_inside, put_item}
+use Rattle.writer.proofs.put_all.Goals as goal
+
+pub loop-item-init : goal.loop-item-init
+loop-item-init g c = let a = c.args in (omega arith, put_nothing g.F.Text.text a.items.now a.at a.out.now)
+
+pub put-end-requires : goal.put-end-requires
+put-end-requires g c =
+    let l = c.loop-item in
+    put_inside g.F.Text.text c.args.items.now l.item-index _ c.loop-item-test.true c.item-item.is l.invariant.1 c.requires
+
+pub loop-item-preserved : goal.loop-item-preserved
+loop-item-preserved g c =
+    let l = c.loop-item in
+    (omega arith, put_item g.F.Text.text c.args.items.now l.item-index _ c.loop-item-test.true c.item-item.is l.invariant.1 c.put-end.ensures)

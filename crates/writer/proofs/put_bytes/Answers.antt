@@ -1,0 +1,6 @@
+-- `writer::put_bytes` meets its contract. Assumes nothing.
+use Rattle.writer.specs.PutLaws.{put_part}
+use Rattle.writer.proofs.put_bytes.Goals as goal
+
+pub returns : goal.returns
+returns c = put_part c.args.text.now c.args.at c.requires c.copy_from_slice.ensures.after
