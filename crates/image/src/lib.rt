@@ -4,7 +4,7 @@
 
 ghost use Rattle.std.specs.Prelude.{◌≡◌, get_or};
 ghost use Rattle.laws.specs.Signed.{signed};
-ghost use Rattle.image.specs.Image.{nodes, channels, kind, four_bytes, inputs};
+ghost use Rattle.image.specs.Image.{nodes, channels, kind, four_bytes};
 ghost use Rattle.image.specs.Readers.{core_at, channel_at};
 
 // A node's fields. The kind is a number, 1 to 9 in an accepted image: one that the judge has not looked at may
@@ -110,15 +110,4 @@ pub fn channel_at(image: &[u8], c: u8) -> Channel
         stations: byte_at(image, depths),
         depth: byte_at(image, depths + 1),
     }
-}
-
-// By number, 0 for what is no kind: the judge asks before it knows that a kind is one, and needs no pearls.
-const INPUTS: [u8; 10] = [0, 0, 1, 1, 1, 1, 2, 2, 2, 3];
-
-// How many inputs a node of a kind has, 0 for a number that is no kind.
-#[tactic(auto, unfolding(crate::specs::Image::inputs))]
-pub fn inputs(kind: u8) -> u8
-    ensures { result ≡ inputs kind }
-{
-    INPUTS.get(kind as usize).copied().unwrap_or(0)
 }

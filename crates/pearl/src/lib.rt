@@ -57,7 +57,6 @@ impl Kind {
 
     // The next value. A port that the kind does not have is not looked at. The ports are named, as above, and
     // no array.
-    #[tactic(auto, using(crate::specs::WrapLaws::wrapped), unfolding(crate::specs::Next::next_value, crate::specs::Next::exact, crate::specs::Next::choose))]
     pub fn next(self, s: i32, a: i32, b: i32, c: i32) -> i32
         ensures { result ≡ next_value (code self) s a b c }
     {

@@ -5,14 +5,25 @@ ghost use Rattle.std.specs.Prelude.{◌≡◌, IfOk};
 ghost use Rattle.laws.specs.Below.{any_below, sum_below};
 ghost use Rattle.laws.specs.Choice.{◌if◌else◌};
 ghost use Rattle.refusal.specs.Number.{number_of};
-ghost use Rattle.image.specs.Image.{channels, stations};
+ghost use Rattle.image.specs.Image.{channels, stations, inputs};
 ghost use Rattle.verdict.specs.Judge.{bad_kind, bad_wire, bad_port, bad_stations, bad_depth, judge};
 ghost use Rattle.image.specs.Ports.{Wired};
 ghost use Rattle.verdict.specs.Clear.{Sized};
 ghost use Rattle.verdict.specs.Passes.{depth_number, marks_below, twice_below, misses};
 
-use image::{channel_at, channels, inputs, kind_at, nodes};
+use image::{channel_at, channels, kind_at, nodes};
 use refusal::Refusal;
+
+// By number, 0 for what is no kind: the judge asks before it knows that a kind is one, and needs no pearls.
+const INPUTS: [u8; 10] = [0, 0, 1, 1, 1, 1, 2, 2, 2, 3];
+
+// How many inputs a node of a kind has, 0 for a number that is no kind.
+#[tactic(auto, unfolding(image::specs::Image::inputs))]
+fn inputs(kind: u8) -> u8
+    ensures { result ≡ inputs kind }
+{
+    INPUTS.get(kind as usize).copied().unwrap_or(0)
+}
 
 // Number 4, of node n.
 #[tactic(auto, unfolding(crate::specs::Judge::bad_kind))]

@@ -25,7 +25,7 @@ use Rattle.shell.specs.Queue.{waiting, queue_of, full}
 use Rattle.shell.specs.Channel.{blocked, arriving, input, stop_below, stop_above, seen, channel_after}
 use Rattle.state.specs.declared.State.{State}
 use Rattle.state.specs.State.{node_at, firings_at, mark_at, station_at, queue_at, channel_in, state_of}
-use Rattle.state.specs.Fresh.{fresh_state}
+use Rattle.state.specs.Fresh.{fresh_state, fresh_answer, zeros}
 use Rattle.cycle.specs.Cycle.{stalled, input_at, blocked_at, seen_at, all_ready, any_blocked, fires, node_after, channel_next}
 use Rattle.cycle.specs.Cycle.{state_after, after, letters_of, values_of}
 use Rattle.fitting.specs.Fits.{cycles_fit, firings_fit, marks_fit, stations_fit, counts_fit, node_clear, mark_clear, station_clear, queue_clear}
@@ -132,6 +132,12 @@ at cycles = state cycles [] marked [] []
 fresh-state : fresh_state figure4 ≡ at 0
 unfolding signed padded table nodes channels parameter depths stations station_of queue_of state_of fresh_state
 fresh-state = refl
+
+-- the judge's number beside zeros
+fresh_refused : fresh_answer (set figure4 2 0) ≡ record { number = 4; state = zeros }
+unfolding judge nodes channels kind wire from to port depths stations depth inputs feeds
+    bad_kind bad_wire bad_port fed_twice not_fed bad_stations bad_depth any_below sum_below fresh_answer
+fresh_refused = refl
 
 -- it fits up to the last cycle count. What does not depend on the count is computed for all counts at once, because to look at all places takes long
 at_firings : (cycles : ℕ) → firings_fit figure4 (at cycles) ≡ true
@@ -244,6 +250,7 @@ record Answered : Type 0 where
   none-values : values ≡ values_written figure4 (at 0) 32 letters values
   -- a run stops at a word that it cannot take, and keeps the cycles before it
   run_12 : run_answer figure4 (at 0) (1 ∷ 0 ∷ 32 ∷ 0 ∷ []) ≡ record { steps = 2; number = 12; state = after figure4 (at 0) (1 ∷ 0 ∷ []) }
+  run_first : run_answer figure4 (at 0) (32 ∷ []) ≡ record { steps = 0; number = 12; state = at 0 }
   run_22 : run_answer figure4 (at 999998) (1 ∷ 0 ∷ 32 ∷ []) ≡ record { steps = 2; number = 22; state = after figure4 (at 999998) (1 ∷ 0 ∷ []) }
   run_0 : run_answer figure4 (at 999998) (1 ∷ 0 ∷ []) ≡ record { steps = 2; number = 0; state = after figure4 (at 999998) (1 ∷ 0 ∷ []) }
   run-cycles : ((after figure4 (at 0) (1 ∷ 0 ∷ [])).cycles ≡ 2) × ((after figure4 (at 999998) (1 ∷ 0 ∷ [])).cycles ≡ 1000000)
@@ -281,6 +288,7 @@ answered =
       none-letters = none.1;
       none-values = none.2;
       run_12 = run_sound 0 (1 ∷ 0 ∷ 32 ∷ 0 ∷ []) refl;
+      run_first = run_sound 0 (32 ∷ []) refl;
       run_22 = run_sound 999998 (1 ∷ 0 ∷ 32 ∷ []) refl;
       run_0 = run_sound 999998 (1 ∷ 0 ∷ []) refl;
       run-cycles = (refl, refl);

@@ -66,7 +66,10 @@ pub record Judged : Type 0 where
   pub at_6 : judge (set figure4 29 2) ≡ 6
   pub at_6_count : judge (set figure4 28 1) ≡ 6
   pub at_7 : judge (set figure4 32 0) ≡ 7
+  -- channels 0 and 95; the last node's second port
+  pub at_7_far : judge (set (fan 32) 608 0) ≡ 7
   pub at_8 : judge (set figure4 2 2) ≡ 8
+  pub at_8_last : judge (set (fan 32) 65 6) ≡ 8
   pub at_9 : judge (set figure4 39 9) ≡ 9
   pub at_10_none : judge (set figure4 40 0) ≡ 10
   pub at_10_deep : judge (set figure4 46 9) ≡ 10
@@ -97,7 +100,9 @@ judged =
       at_6 = refl;
       at_6_count = refl;
       at_7 = refl;
+      at_7_far = refl;
       at_8 = refl;
+      at_8_last = refl;
       at_9 = refl;
       at_10_none = refl;
       at_10_deep = refl;

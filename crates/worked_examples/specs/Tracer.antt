@@ -172,6 +172,7 @@ record Numbered : Type 0 where
   tail_before_14 : and_more figure4 (most + 9) ≡ 3
   -- bit 5 of a netlist of 5 nodes; a word of 4,097 that sets it
   at_12 : number (with figure4 (31 ∷ 32 ∷ [])) ≡ 12
+  at_12_first : number (with figure4 (32 ∷ [])) ≡ 12
   at_12_not : number (with figure4 (31 ∷ 31 ∷ [])) ≡ 0
   then_14 : and_more (with figure4 (32 ∷ [])) most ≡ 14
   -- bit 63
@@ -198,6 +199,7 @@ numbered =
       at_14_not = refl;
       tail_before_14 = refl;
       at_12 = refl;
+      at_12_first = refl;
       at_12_not = refl;
       then_14 = refl;
       at_12_high = refl;
