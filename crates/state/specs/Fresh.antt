@@ -4,17 +4,24 @@ use Rattle.laws.specs.Choice.{◌if◌else◌}
 use Rattle.image.specs.Image.{parameter, from, stations}
 use Rattle.verdict.specs.Judge.{judge}
 use Rattle.relay.specs.Station.{station_of}
+use Rattle.shell.specs.Channel.{Channel}
 use Rattle.shell.specs.Queue.{queue_of}
 use Rattle.state.specs.Told.{Told}
+use Rattle.state.specs.declared.Node.{Node}
 use Rattle.state.specs.declared.State.{State}
 use Rattle.state.specs.State.{no_node, state_of}
 
--- "A fresh state: cycle count and firings 0; each node shows its parameter, pending on every channel it feeds; stations and queues are empty."
+-- "each node shows its parameter"
+abbrev pub fresh_node : List ℕ → ℕ → Node
+fresh_node img n = record { value = parameter img n; firings = 0 }
+
+-- "pending on every channel it feeds; stations and queues are empty"
+abbrev pub fresh_channel : List ℕ → ℕ → Channel
+fresh_channel img c = record { source = parameter img (from img c) ∷ []; row = replicate (stations img c) []; queue = [] }
+
+-- "A fresh state: cycle count and firings 0"
 unfoldable pub fresh_state : List ℕ → State
-fresh_state img =
-    state_of img 0
-    (λ n. record { value = parameter img n; firings = 0 })
-    (λ c. record { source = parameter img (from img c) ∷ []; row = replicate (stations img c) []; queue = [] })
+fresh_state img = state_of img 0 (fresh_node img) (fresh_channel img)
 
 -- "a state of zeros throughout"
 unfoldable pub zeros : State

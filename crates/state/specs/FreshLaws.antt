@@ -1,7 +1,7 @@
 -- The fresh state: what its nodes and channels are; and how it is filled, node by node and channel by channel. Assumes nothing.
-use Rattle.std.specs.Prelude.{List, [], ◌∷◌, ◌≡◌, ℕ, zero, suc, ◌*◌, ◌/◌, ◌%◌, ◌<◌, ℤ, get_or, set, replicate}
+use Rattle.std.specs.Prelude.{List, [], ◌∷◌, ◌++◌, ◌≡◌, ℕ, zero, suc, ◌*◌, ◌/◌, ◌%◌, ◌<◌, ℤ, get_or, set, replicate}
 use Rattle.std.proofs.Math.Path.{refl, ap}
-use Rattle.std.proofs.Common.{arith, ne_eqb}
+use Rattle.std.proofs.Common.{◌∙◌, arith, ne_eqb}
 use Rattle.std.proofs.lemmas.List.{length-replicate}
 use Rattle.laws.specs.Lists.{padded}
 use Rattle.laws.specs.ListsLaws.{replicate_rest}
@@ -21,7 +21,7 @@ use Rattle.state.specs.declared.State.{State}
 use Rattle.state.specs.Told.{Told}
 use Rattle.state.specs.State.{no_node, node_at, firings_at, channel_in, state_of}
 use Rattle.state.specs.StateLaws.{node_of, channel_of}
-use Rattle.state.specs.Fresh.{fresh_state, zeros, fresh_answer}
+use Rattle.state.specs.Fresh.{fresh_node, fresh_channel, fresh_state, zeros, fresh_answer}
 
 -- ---- what it is written from
 pub fresh-cycles : (img : List ℕ) → (fresh_state img).cycles ≡ 0
@@ -42,21 +42,16 @@ nothing_there zero = refl
 nothing_there (suc r) = rw (nothing_there r)
 
 module _ (img : List ℕ) (a : Accepted img) (c : ℕ) (h : c < channels img) where
-  pub fresh-channel :
-      channel_in img (fresh_state img) c ≡ record { source = parameter img (from img c) ∷ []; row = replicate (stations img c) []; queue = [] }
+  pub fresh-channel : channel_in img (fresh_state img) c ≡ fresh_channel img c
   unfolding fresh_state
-  fresh-channel = channel_of img 0 _ _ c h (a.wires c h).0 (a.rows c h) (length-replicate (stations img c) []) refl
+  fresh-channel = channel_of img 0 _ _ c h (a.wires c h).0 (a.rows c h) (length-replicate (stations img c) _) refl
 
   -- each channel holds one token, its from node's parameter
   pub fresh-tokens : tokens (channel_in img (fresh_state img) c) ≡ parameter img (from img c) ∷ []
   unfolding tokens
-  fresh-tokens = rw (fresh-channel, nothing_there (stations img c))
+  fresh-tokens = ap tokens fresh-channel ∙ ap (λ l. l ++ (parameter img (from img c) ∷ [])) (nothing_there (stations img c))
 
 -- ---- how it is filled
--- a fresh node
-unfoldable pub fresh_node : List ℕ → ℕ → Node
-fresh_node img n = record { value = parameter img n; firings = 0 }
-
 -- the first n nodes and the first c marks are set, and the rest is 0
 unfoldable pub filled : List ℕ → ℕ → ℕ → State
 filled img n c =
@@ -84,7 +79,7 @@ module _ (img : List ℕ) where
         queues = s.queues;
       }
       ≡ filled img (suc n) c
-  unfolding filled fresh_node
+  unfolding filled
   filled_node n c h s e v q = rw (e, q, padded-table (fresh_node img) n 64 no_node h)
 
   pub filled_mark :
@@ -96,7 +91,7 @@ module _ (img : List ℕ) where
 
   -- with all of them it is the fresh state
   pub filled_all : Accepted img → filled img (nodes img) (channels img) ≡ fresh_state img
-  unfolding filled fresh_node fresh_state state_of
+  unfolding filled fresh_state state_of
   filled_all a =
       rw (
         padded_same (λ i. station_of (get_or (replicate (stations img (i / 8)) []) (i % 8) [])) (8 * channels img) 768 (station_of [])

@@ -1,6 +1,6 @@
 // Runs the engine and prints what it answers. First the starred edges' table, a line an edge, and two traces in
-// the trace program's form. Then a line a case: the number; the places of the lent arrays, a letter and its value each, which were
-// '.' and 7 before, or the steps done; and the state that came back.
+// the trace program's form. Then a line a case: the number; the places of the lent arrays, a letter and its value
+// each, which were '.' and 7 before, or the steps done; and the state that came back.
 //
 // Standard input has two images of 47 bytes: figure 4's, and one with stations on every channel:
 // kinds 1 6 4 7, parameters 10 100 200 300, wires 0-1-0, 3-1-1, 1-2-0, 2-3-0, 0-3-1, depths 1/1, 1/1,
@@ -9,257 +9,267 @@
 
 use refusal::Refusal;
 use starred::Edge;
-use state::{Refused, State};
+use state::State;
 use std::io;
 
 // One count node, parameter 5.
 const COUNTING: [u8; 7] = [1, 0, 1, 5, 0, 0, 0];
 
-// An image, and where what the engine answers for it is printed.
-#[derive_where(Clone, Copy)]
-struct Bench<'a, P> {
-    rt: &'a P,
-    image: &'a [u8],
+// The stall words of the two traces, a byte a word.
+const FIGURE4_WORDS: &[u8] = b"\x01\x00\x00\x10\x00\x00\x03\x03\x08\x00\x00";
+
+const STATIONS_WORDS: &[u8] =
+    b"\x04\x0a\x00\x02\x07\x05\x0d\x09\x00\x00\x09\x0d\x03\x04\x0b\x0c\x00\x00\x0e\x00";
+
+// What is called: a step with a word, on arrays of so many places, six at most; or a run.
+#[derive(Clone, Copy)]
+enum Call {
+    Step(u64, usize, usize),
+    Run(&'static [u64]),
 }
 
-impl<'a, P: Print> Bench<'a, P> {
-    fn new(rt: &'a P, image: &'a [u8]) -> Self {
-        Bench { rt, image }
-    }
-
-    // The same image without its last byte.
-    fn short(self) -> Self {
-        let image = self.image.split_last().map_or(self.image, |(_, rest)| rest);
-        Bench::new(self.rt, image)
-    }
+// A call on figure 4's image, or on that image without its last byte, from its fresh state with another cycle count,
+// other firings of node 0, and on channel 0 another mark, a station that holds a 7, or a queue with a 7 in its first
+// place that counts so many.
+#[derive(Clone, Copy)]
+struct Case {
+    label: &'static str,
+    short: bool,
+    cycles: u32,
+    fired: u32,
+    mark: u8,
+    held: bool,
+    queued: Option<u8>,
+    call: Call,
 }
 
-// ---- what a call answers
+const FRESH: Case = Case {
+    label: "no stalls",
+    short: false,
+    cycles: 0,
+    fired: 0,
+    mark: 1,
+    held: false,
+    queued: None,
+    call: Call::Step(0, 6, 6),
+};
 
-// The number, 0 for no refusal, since that is what is printed.
-fn number_in(answer: Result<State, Refused>) -> u8 {
-    answer.err().map_or(0, |refused| refused.refusal.number())
-}
+const LAST: u32 = 1000000;
 
-// The state, which a refused call hands back too.
-fn state_in(answer: Result<State, Refused>) -> State {
-    answer.unwrap_or_else(|refused| refused.state)
-}
+// The numbers of a step, alone and with the causes of those that come after; number 21, each condition in turn; and
+// the numbers of a run.
+const CASES: [Case; 23] = [
+    FRESH,
+    Case {
+        label: "all stalled, 4 places",
+        call: Call::Step(31, 4, 4),
+        ..FRESH
+    },
+    Case {
+        label: "3 letters",
+        call: Call::Step(0, 3, 6),
+        ..FRESH
+    },
+    Case {
+        label: "3 values",
+        call: Call::Step(0, 6, 3),
+        ..FRESH
+    },
+    Case {
+        label: "word 32",
+        call: Call::Step(32, 6, 6),
+        ..FRESH
+    },
+    Case {
+        label: "word 32, 3 letters",
+        call: Call::Step(32, 3, 6),
+        ..FRESH
+    },
+    Case {
+        label: "cycle 999,999",
+        cycles: LAST - 1,
+        ..FRESH
+    },
+    Case {
+        label: "cycle 1,000,000",
+        cycles: LAST,
+        ..FRESH
+    },
+    Case {
+        label: "cycle 1,000,000, word 32, 3 values",
+        cycles: LAST,
+        call: Call::Step(32, 6, 3),
+        ..FRESH
+    },
+    Case {
+        label: "cycle 1,000,000, no mark, word 32",
+        cycles: LAST,
+        mark: 0,
+        call: Call::Step(32, 6, 6),
+        ..FRESH
+    },
+    Case {
+        label: "a byte short, no mark",
+        short: true,
+        mark: 0,
+        ..FRESH
+    },
+    Case {
+        label: "cycle 1,000,001",
+        cycles: LAST + 1,
+        ..FRESH
+    },
+    Case {
+        label: "fired in no cycle",
+        fired: 1,
+        ..FRESH
+    },
+    Case {
+        label: "mark 2",
+        mark: 2,
+        ..FRESH
+    },
+    Case {
+        label: "3 tokens in a queue of 2",
+        queued: Some(3),
+        ..FRESH
+    },
+    Case {
+        label: "a token in an empty queue",
+        queued: Some(0),
+        ..FRESH
+    },
+    Case {
+        label: "a station that is not there",
+        held: true,
+        ..FRESH
+    },
+    Case {
+        label: "no mark",
+        mark: 0,
+        ..FRESH
+    },
+    Case {
+        label: "words 1 0 32 0",
+        call: Call::Run(&[1, 0, 32, 0]),
+        ..FRESH
+    },
+    Case {
+        label: "words 1 0 32 0 from cycle 999,998",
+        cycles: LAST - 2,
+        call: Call::Run(&[1, 0, 32, 0]),
+        ..FRESH
+    },
+    Case {
+        label: "words 1 0 from cycle 999,998",
+        cycles: LAST - 2,
+        call: Call::Run(&[1, 0]),
+        ..FRESH
+    },
+    Case {
+        label: "no words, no mark",
+        mark: 0,
+        call: Call::Run(&[]),
+        ..FRESH
+    },
+    Case {
+        label: "no words, a byte short, no mark",
+        short: true,
+        mark: 0,
+        call: Call::Run(&[]),
+        ..FRESH
+    },
+];
 
 // ---- printing. Letters and values are two arrays of numbers, as the C interface lends them.
 
-impl<'a, P: Print> Bench<'a, P> {
-    // A letter, and its value unless it is the 0 that an I or an S carries.
-    fn print_place(self, letter: Option<&u8>, value: Option<&i32>) -> io::Result<()> {
-        let letter = letter.map(|&letter| char::from(letter));
-        print!(self.rt; " ")?;
+// A letter, and its value unless it is the 0 that an I or an S carries. No `zip`: the arrays may differ in length, and
+// what one has beyond the other is printed too.
+fn print_places(rt: &impl Print, letters: &[u8], values: &[i32]) -> io::Result<()> {
+    for i in 0..letters.len().max(values.len()) {
+        print!(rt; " ")?;
+        let letter = letters.get(i).copied();
         if let Some(letter) = letter {
-            print!(self.rt; "{letter}")?;
+            let letter = char::from(letter);
+            print!(rt; "{letter}")?;
         }
-        match (letter, value) {
-            (Some('I' | 'S'), Some(0)) => Ok(()),
-            (_, Some(value)) => print!(self.rt; "{value}"),
-            (_, None) => Ok(()),
+        let value = values.get(i).copied().unwrap_or(0);
+        if i < values.len() && (value != 0 || !matches!(letter, Some(b'I' | b'S'))) {
+            print!(rt; "{value}")?;
         }
     }
-
-    // No `zip`: the arrays may differ in length, and what one has beyond the other is printed too.
-    fn print_places(self, letters: &[u8], values: &[i32]) -> io::Result<()> {
-        for i in 0..letters.len().max(values.len()) {
-            self.print_place(letters.get(i), values.get(i))?;
-        }
-        Ok(())
-    }
-
-    // Each node's firings.
-    fn print_fired(self, state: &State) -> io::Result<()> {
-        let nodes = usize::from(image::nodes(self.image));
-        print!(self.rt; "fired")?;
-        for node in state.nodes.iter().take(nodes) {
-            let firings = node.firings;
-            print!(self.rt; " {firings}")?;
-        }
-        Ok(())
-    }
-
-    fn print_state(self, state: &State) -> io::Result<()> {
-        let cycles = state.cycles;
-        print!(self.rt; ": {cycles} cycles, ")?;
-        self.print_fired(state)?;
-        let value = state.nodes[0].value;
-        println!(self.rt; ", node 0 shows {value}")
-    }
-}
-
-// ---- cases
-
-impl<'a, P: Print> Bench<'a, P> {
-    fn fresh(self) -> State {
-        state_in(State::fresh(self.image))
-    }
-
-    // One cycle's line, of eight channels at most.
-    fn cycle(self, state: State, word: u64, cycle: usize) -> io::Result<State> {
-        let channels = usize::from(image::channels(self.image)).min(8);
-        let mut letters = [0; 8];
-        let mut values = [0; 8];
-        let letters = &mut letters[..channels];
-        let values = &mut values[..channels];
-        let answer = engine::step(self.image, state, word, letters, values);
-        print!(self.rt; "{cycle}")?;
-        self.print_places(letters, values)?;
-        println!(self.rt;)?;
-        Ok(state_in(answer))
-    }
-
-    // A trace from the fresh state, a byte a stall word.
-    fn trace(self, words: &[u8]) -> io::Result<()> {
-        let mut state = self.fresh();
-        for (cycle, &word) in words.iter().enumerate() {
-            state = self.cycle(state, u64::from(word), cycle)?;
-        }
-        self.print_fired(&state)?;
-        println!(self.rt;)
-    }
-
-    // A refused image has no state but zeros.
-    fn show_fresh(self, label: &str) -> io::Result<()> {
-        let answer = State::fresh(self.image);
-        let number = number_in(answer);
-        print!(self.rt; "{label}: {number}")?;
-        self.print_state(&state_in(answer))
-    }
-
-    // A step on arrays of so many places, six at most.
-    fn step_on(
-        self,
-        label: &str,
-        state: State,
-        word: u64,
-        letters: usize,
-        values: usize,
-    ) -> io::Result<()> {
-        let mut six_letters = [b'.'; 6];
-        let mut six_values = [7; 6];
-        let letters = &mut six_letters[..letters.min(6)];
-        let values = &mut six_values[..values.min(6)];
-        let answer = engine::step(self.image, state, word, letters, values);
-        let number = number_in(answer);
-        print!(self.rt; "{label}: {number}:")?;
-        self.print_places(letters, values)?;
-        self.print_state(&state_in(answer))
-    }
-
-    fn step(self, label: &str, state: State, word: u64) -> io::Result<()> {
-        self.step_on(label, state, word, 6, 6)
-    }
-
-    fn run(self, label: &str, state: State, words: &[u64]) -> io::Result<State> {
-        let ran = engine::run(self.image, state, words);
-        let number = ran.stopped.map_or(0, Refusal::number);
-        let steps = ran.steps;
-        print!(self.rt; "{label}: {number}, {steps} steps")?;
-        self.print_state(&ran.state)?;
-        Ok(ran.state)
-    }
-}
-
-// ---- states
-
-fn at_cycle(state: State, cycles: u32) -> State {
-    State { cycles, ..state }
-}
-
-// The same state with something changed.
-fn with<F: FnOnce(&mut State)>(mut state: State, edit: F) -> State
-    requires { F.IsAlwaysCallable edit }
-{
-    edit(&mut state);
-    state
-}
-
-// A queue of channel 0 with so many tokens, of which the first place has a 7.
-fn with_queue(state: State, count: u8) -> State {
-    with(state, |state| {
-        state.queues[0].tokens[0] = 7;
-        state.queues[0].count = count;
-    })
-}
-
-// The numbers of a step, alone and with the causes of those that come after.
-fn show_numbers<P: Print>(bench: Bench<'_, P>) -> io::Result<()> {
-    let fresh = bench.fresh();
-    let last = at_cycle(fresh, 1000000);
-    let unmarked = with(fresh, |state| state.pending[0] = 0);
-    bench.step("no stalls", fresh, 0)?;
-    bench.step_on("all stalled, 4 places", fresh, 31, 4, 4)?;
-    bench.step_on("3 letters", fresh, 0, 3, 6)?;
-    bench.step_on("3 values", fresh, 0, 6, 3)?;
-    bench.step("word 32", fresh, 32)?;
-    bench.step_on("word 32, 3 letters", fresh, 32, 3, 6)?;
-    bench.step("cycle 999,999", at_cycle(fresh, 999999), 0)?;
-    bench.step("cycle 1,000,000", last, 0)?;
-    bench.step_on("cycle 1,000,000, word 32, 3 values", last, 32, 6, 3)?;
-    bench.step(
-        "cycle 1,000,000, no mark, word 32",
-        with(last, |state| state.pending[0] = 0),
-        32,
-    )?;
-    bench.short().step("a byte short, no mark", unmarked, 0)
-}
-
-// Number 21: each condition in turn.
-fn show_misfits<P: Print>(bench: Bench<'_, P>) -> io::Result<()> {
-    let fresh = bench.fresh();
-    bench.step("cycle 1,000,001", at_cycle(fresh, 1000001), 0)?;
-    let fired = with(fresh, |state| state.nodes[0].firings = 1);
-    let twice_marked = with(fresh, |state| state.pending[0] = 2);
-    let unmarked = with(fresh, |state| state.pending[0] = 0);
-    let station = with(fresh, |state| {
-        state.stations[0].tokens[0] = 7;
-        state.stations[0].count = 1;
-    });
-    bench.step("fired in no cycle", fired, 0)?;
-    bench.step("mark 2", twice_marked, 0)?;
-    bench.step("3 tokens in a queue of 2", with_queue(fresh, 3), 0)?;
-    bench.step("a token in an empty queue", with_queue(fresh, 0), 0)?;
-    bench.step("a station that is not there", station, 0)?;
-    bench.step("no mark", unmarked, 0)
-}
-
-fn show_runs<P: Print>(bench: Bench<'_, P>) -> io::Result<()> {
-    let fresh = bench.fresh();
-    let late = at_cycle(fresh, 999998);
-    let unmarked = with(fresh, |state| state.pending[0] = 0);
-    bench.run("words 1 0 32 0", fresh, &[1, 0, 32, 0])?;
-    bench.run("words 1 0 32 0 from cycle 999,998", late, &[1, 0, 32, 0])?;
-    bench.run("words 1 0 from cycle 999,998", late, &[1, 0])?;
-    bench.run("no words, no mark", unmarked, &[])?;
-    bench
-        .short()
-        .run("no words, a byte short, no mark", unmarked, &[])?;
     Ok(())
 }
 
-fn show_figure4<P: Print>(bench: Bench<'_, P>) -> io::Result<()> {
-    bench.show_fresh("figure 4")?;
-    bench.short().show_fresh("a byte short")?;
-    show_numbers(bench)?;
-    show_misfits(bench)?;
-    show_runs(bench)
+// Each node's firings.
+fn print_fired(rt: &impl Print, image: &[u8], state: &State) -> io::Result<()> {
+    print!(rt; "fired")?;
+    for node in state.nodes.iter().take(usize::from(image::nodes(image))) {
+        let firings = node.firings;
+        print!(rt; " {firings}")?;
+    }
+    Ok(())
 }
 
-// A count node through all 1,000,000 cycles, in ten runs.
-fn show_limit<P: Print>(bench: Bench<'_, P>, words: &[u64]) -> io::Result<()> {
-    let mut state = bench.fresh();
-    bench.run("three words", state, &[0, 0, 0])?;
-    for _ in 0..9 {
-        state = engine::run(bench.image, state, words).state;
+fn print_state(rt: &impl Print, image: &[u8], state: &State) -> io::Result<()> {
+    let cycles = state.cycles;
+    print!(rt; ": {cycles} cycles, ")?;
+    print_fired(rt, image, state)?;
+    let value = state.nodes[0].value;
+    println!(rt; ", node 0 shows {value}")
+}
+
+// ---- calls
+
+fn fresh(image: &[u8]) -> State {
+    State::fresh(image).unwrap_or_else(|refused| refused.state)
+}
+
+// The same image without its last byte.
+fn short(image: &[u8]) -> &[u8] {
+    match image {
+        [rest @ .., _] => rest,
+        [] => image,
     }
-    let last = bench.run("words up to cycle 1,000,000", state, words)?;
-    bench.run("no words at cycle 1,000,000", last, &[])?;
-    bench.run("a word at cycle 1,000,000", last, &[0])?;
-    bench.step("a step at cycle 1,000,000", last, 0)
+}
+
+// A refused image has no state but zeros.
+fn show_fresh(rt: &impl Print, label: &str, image: &[u8]) -> io::Result<()> {
+    let answer = State::fresh(image);
+    let number = answer.err().map_or(0, |refused| refused.refusal.number());
+    print!(rt; "{label}: {number}")?;
+    print_state(rt, image, &fresh(image))
+}
+
+// A step on arrays of so many places.
+fn step(
+    rt: &impl Print,
+    image: &[u8],
+    state: State,
+    word: u64,
+    letters: usize,
+    values: usize,
+) -> io::Result<()> {
+    let mut six_letters = [b'.'; 6];
+    let mut six_values = [7; 6];
+    let letters = &mut six_letters[..letters.min(6)];
+    let values = &mut six_values[..values.min(6)];
+    let (number, after) = match engine::step(image, state, word, letters, values) {
+        Ok(after) => (0, after),
+        Err(refused) => (refused.refusal.number(), refused.state),
+    };
+    print!(rt; "{number}:")?;
+    print_places(rt, letters, values)?;
+    print_state(rt, image, &after)
+}
+
+fn run(rt: &impl Print, image: &[u8], state: State, words: &[u64]) -> io::Result<State> {
+    let ran = engine::run(image, state, words);
+    let number = ran.stopped.map_or(0, Refusal::number);
+    let steps = ran.steps;
+    print!(rt; "{number}, {steps} steps")?;
+    print_state(rt, image, &ran.state)?;
+    Ok(ran.state)
 }
 
 // The table of the starred edges: what each kind makes of its inputs, and what it should. Past its end there is no
@@ -280,28 +290,109 @@ fn show_starred(rt: &impl Print) -> io::Result<()> {
     Ok(())
 }
 
+// A trace of up to eight channels from the fresh state.
+fn trace(rt: &impl Print, image: &[u8], words: &[u8]) -> io::Result<()> {
+    let channels = usize::from(image::channels(image)).min(8);
+    let mut state = fresh(image);
+    for (cycle, &word) in words.iter().enumerate() {
+        let mut eight_letters = [0; 8];
+        let mut eight_values = [0; 8];
+        let letters = &mut eight_letters[..channels];
+        let values = &mut eight_values[..channels];
+        state = match engine::step(image, state, u64::from(word), letters, values) {
+            Ok(after) => after,
+            Err(refused) => refused.state,
+        };
+        print!(rt; "{cycle}")?;
+        print_places(rt, letters, values)?;
+        println!(rt;)?;
+    }
+    print_fired(rt, image, &state)?;
+    println!(rt;)
+}
+
+fn show_case(rt: &impl Print, whole: &[u8], case: &Case) -> io::Result<()> {
+    let mut state = fresh(whole);
+    state.cycles = case.cycles;
+    state.nodes[0].firings = case.fired;
+    state.pending[0] = case.mark;
+    if case.held {
+        state.stations[0].tokens[0] = 7;
+        state.stations[0].count = 1;
+    }
+    if let Some(count) = case.queued {
+        state.queues[0].tokens[0] = 7;
+        state.queues[0].count = count;
+    }
+    let image = if case.short { short(whole) } else { whole };
+    let label = case.label;
+    print!(rt; "{label}: ")?;
+    match case.call {
+        Call::Step(word, letters, values) => step(rt, image, state, word, letters, values)?,
+        Call::Run(words) => {
+            run(rt, image, state, words)?;
+        }
+    }
+    Ok(())
+}
+
+fn show_cases(rt: &impl Print, figure4: &[u8]) -> io::Result<()> {
+    for case in &CASES {
+        show_case(rt, figure4, case)?;
+    }
+    Ok(())
+}
+
+// A count node through all 1,000,000 cycles, in ten runs.
+fn run_to_the_limit(words: &[u64]) -> State {
+    let mut state = fresh(&COUNTING);
+    for _ in 0..10 {
+        state = engine::run(&COUNTING, state, words).state;
+    }
+    state
+}
+
+fn show_limit(rt: &impl Print, last: State) -> io::Result<()> {
+    let cases: [(&str, State, &[u64]); 4] = [
+        ("three words", fresh(&COUNTING), &[0, 0, 0]),
+        ("no words after 1,000,000", last, &[]),
+        ("a word after 1,000,000", last, &[0]),
+        ("a word that is refused after 1,000,000", last, &[2]),
+    ];
+    for (label, state, words) in cases {
+        print!(rt; "{label}: ")?;
+        run(rt, &COUNTING, state, words)?;
+    }
+    print!(rt; "a step after 1,000,000: ")?;
+    step(rt, &COUNTING, last, 0, 6, 6)
+}
+
 // 64 count nodes: every bit of a word stalls one.
 fn show_64(rt: &impl Print) -> io::Result<()> {
     let mut image = [1; 322];
     image[0] = 64;
     image[1] = 0;
-    let bench = Bench::new(rt, &image);
-    bench.step("64 nodes, bit 63", bench.fresh(), 1 << 63)?;
-    bench.step("64 nodes, all bits", bench.fresh(), u64::MAX)
+    for (label, word) in [("bit 63", 1 << 63), ("all bits", u64::MAX)] {
+        print!(rt; "64 nodes, {label}: ")?;
+        step(rt, &image, fresh(&image), word, 6, 6)?;
+    }
+    Ok(())
+}
+
+fn show(rt: &impl Print, figure4: &[u8], stations: &[u8]) -> io::Result<()> {
+    show_starred(rt)?;
+    trace(rt, figure4, FIGURE4_WORDS)?;
+    trace(rt, stations, STATIONS_WORDS)?;
+    show_fresh(rt, "figure 4", figure4)?;
+    show_fresh(rt, "a byte short", short(figure4))?;
+    show_cases(rt, figure4)?;
+    show_64(rt)
 }
 
 fn main(rt: HostRuntime) -> io::Result<()> {
     let mut bytes = [0; 94];
     input::read_to_end(&mut rt.stdin(), &mut bytes).unwrap_or_else(|unread| unread.before);
-    let figure4 = Bench::new(&rt, &bytes[..47]);
-    let stations = Bench::new(&rt, &bytes[47..]);
-    let counting = Bench::new(&rt, &COUNTING);
-    show_starred(&rt)?;
-    figure4.trace(b"\x01\x00\x00\x10\x00\x00\x03\x03\x08\x00\x00")?;
-    stations.trace(
-        b"\x04\x0a\x00\x02\x07\x05\x0d\x09\x00\x00\x09\x0d\x03\x04\x0b\x0c\x00\x00\x0e\x00",
-    )?;
-    show_figure4(figure4)?;
-    show_limit(counting, &vec![in rt.alloc(); 0; 100000]?)?;
-    show_64(&rt)
+    show(&rt, &bytes[..47], &bytes[47..])?;
+    let words = vec![in rt.alloc(); 0; 100000]?;
+    show_limit(&rt, run_to_the_limit(&words))
 }

@@ -1,12 +1,32 @@
-// Runs the judge at its limits, on images that have one cause of a number or two, and prints a line a
-// case. Each image is made from the largest one, 64 nodes and 96 channels.
+// Runs the judge at its limits, on images that have one cause of a number or two, and prints a line a case.
 #![tactic(auto)]
 
 use std::alloc::{AllocError, Global};
 use std::io;
 
-// Where the largest image has the last node's kind, the last channel's wire and depths, and the first
-// channel's depths.
+// An image of so many nodes, channels and stations (`sized`), brought to a length, and what is then written over
+// bytes of it.
+#[derive(Clone, Copy)]
+struct Case {
+    label: &'static str,
+    nodes: u8,
+    channels: u8,
+    stations: u16,
+    length: usize,
+    changes: &'static [(usize, u8)],
+}
+
+// The largest image without stations.
+const LARGEST: Case = Case {
+    label: "64 nodes and 96 channels",
+    nodes: 64,
+    channels: 96,
+    stations: 0,
+    length: 802,
+    changes: &[],
+};
+
+// Where that has the last node's kind, the last channel's wire and depths, and the first channel's depths.
 const KIND: usize = 65;
 
 const FROM: usize = 607;
@@ -23,35 +43,127 @@ const FIRST_STATIONS: usize = 610;
 
 const FIRST_QUEUE: usize = 611;
 
-// A case's label, and what is written over bytes of the largest image.
-type Case = (&'static str, &'static [(usize, u8)]);
-
-const WIRES: [Case; 8] = [
-    ("kind 0 at the last node", &[(KIND, 0)]),
-    ("kind 10 at the last node", &[(KIND, 10)]),
-    ("from node 64 on the last channel", &[(FROM, 64)]),
-    ("to node 64 on the last channel", &[(TO, 64)]),
-    ("port 1 of a hold node", &[(PORT, 1)]),
-    ("port 0 of a count node", &[(KIND, 1)]),
-    ("channel 95 feeds the port of channel 0", &[(TO, 0)]),
-    ("port 1 of the last node not fed", &[(KIND, 6)]),
-];
-
-const DEPTHS: [Case; 3] = [
-    ("9 stations on the last channel", &[(STATIONS, 9)]),
-    ("queue 0 on the last channel", &[(QUEUE, 0)]),
-    ("queue 9 on the last channel", &[(QUEUE, 9)]),
-];
-
-const TWO_CAUSES: [Case; 2] = [
-    (
-        "queue 0 on channel 0 and kind 0 at the last node",
-        &[(FIRST_QUEUE, 0), (KIND, 0)],
-    ),
-    (
-        "9 stations and port 1 of the last node not fed",
-        &[(FIRST_STATIONS, 9), (KIND, 6)],
-    ),
+const CASES: [Case; 24] = [
+    LARGEST,
+    Case {
+        label: "65 nodes",
+        nodes: 65,
+        length: 807,
+        ..LARGEST
+    },
+    Case {
+        label: "97 channels",
+        channels: 97,
+        length: 807,
+        ..LARGEST
+    },
+    Case {
+        label: "no nodes",
+        changes: &[(0, 0)],
+        ..LARGEST
+    },
+    Case {
+        label: "65 nodes and nothing else",
+        nodes: 65,
+        channels: 0,
+        length: 2,
+        ..LARGEST
+    },
+    Case {
+        label: "no bytes",
+        length: 0,
+        ..LARGEST
+    },
+    Case {
+        label: "one byte",
+        length: 1,
+        ..LARGEST
+    },
+    Case {
+        label: "a byte short",
+        length: 801,
+        ..LARGEST
+    },
+    Case {
+        label: "a byte over",
+        length: 803,
+        ..LARGEST
+    },
+    Case {
+        label: "kind 0 at the last node",
+        changes: &[(KIND, 0)],
+        ..LARGEST
+    },
+    Case {
+        label: "kind 10 at the last node",
+        changes: &[(KIND, 10)],
+        ..LARGEST
+    },
+    Case {
+        label: "from node 64 on the last channel",
+        changes: &[(FROM, 64)],
+        ..LARGEST
+    },
+    Case {
+        label: "to node 64 on the last channel",
+        changes: &[(TO, 64)],
+        ..LARGEST
+    },
+    Case {
+        label: "port 1 of a hold node",
+        changes: &[(PORT, 1)],
+        ..LARGEST
+    },
+    Case {
+        label: "port 0 of a count node",
+        changes: &[(KIND, 1)],
+        ..LARGEST
+    },
+    Case {
+        label: "channel 95 feeds the port of channel 0",
+        changes: &[(TO, 0)],
+        ..LARGEST
+    },
+    Case {
+        label: "port 1 of the last node not fed",
+        changes: &[(KIND, 6)],
+        ..LARGEST
+    },
+    Case {
+        label: "9 stations on the last channel",
+        changes: &[(STATIONS, 9)],
+        ..LARGEST
+    },
+    Case {
+        label: "queue 0 on the last channel",
+        changes: &[(QUEUE, 0)],
+        ..LARGEST
+    },
+    Case {
+        label: "queue 9 on the last channel",
+        changes: &[(QUEUE, 9)],
+        ..LARGEST
+    },
+    Case {
+        label: "256 stations",
+        stations: 256,
+        ..LARGEST
+    },
+    Case {
+        label: "257 stations",
+        stations: 257,
+        ..LARGEST
+    },
+    Case {
+        label: "queue 0 on channel 0 and kind 0 at the last node",
+        changes: &[(FIRST_QUEUE, 0), (KIND, 0)],
+        ..LARGEST
+    },
+    Case {
+        label: "9 stations and port 1 of the last node not fed",
+        changes: &[(FIRST_STATIONS, 9), (KIND, 6)],
+        ..LARGEST
+    },
 ];
 
 // Channel i's wire: channels 0 to 63 feed the sum nodes, two each, and the others the hold nodes.
@@ -84,59 +196,20 @@ fn sized(alloc: Global, n: u8, c: u8, stations: u16) -> Result<Vec<u8>, AllocErr
     Ok(image)
 }
 
-// The same image with other bytes at some places. The program edges has a function for the three lines
-// that set a place: a crate for the two would be longer.
-fn with(image: &Vec<u8>, changes: &[(usize, u8)]) -> Result<Vec<u8>, AllocError> {
-    let mut changed = image.clone()?;
-    for &(at, byte) in changes {
-        if let Some(place) = changed.get_mut(at) {
-            *place = byte;
+fn main(rt: HostRuntime) -> io::Result<()> {
+    for case in &CASES {
+        let label = case.label;
+        let mut image = sized(rt.alloc(), case.nodes, case.channels, case.stations)?;
+        image.resize(case.length, 0)?;
+        for &(at, byte) in case.changes {
+            if let Some(place) = image.get_mut(at) {
+                *place = byte;
+            }
+        }
+        match verdict::judge(&image) {
+            Ok(()) => println!(rt; "{label}: accepted")?,
+            Err(refusal) => println!(rt; "{label}: {refusal}")?,
         }
     }
-    Ok(changed)
-}
-
-// The same image with another length.
-fn cut(image: &Vec<u8>, length: usize) -> Result<Vec<u8>, AllocError> {
-    let mut changed = image.clone()?;
-    changed.resize(length, 0)?;
-    Ok(changed)
-}
-
-// The program judge prints this without a label: a crate for the two would be longer.
-fn judge(rt: &impl Print, label: &str, image: &[u8]) -> io::Result<()> {
-    match verdict::judge(image) {
-        Ok(()) => println!(rt; "{label}: accepted"),
-        Err(refusal) => println!(rt; "{label}: {refusal}"),
-    }
-}
-
-fn judge_sizes(rt: &impl Print, alloc: Global, largest: &Vec<u8>) -> io::Result<()> {
-    judge(rt, "64 nodes and 96 channels", largest)?;
-    judge(rt, "65 nodes", &sized(alloc, 65, 96, 0)?)?;
-    judge(rt, "97 channels", &sized(alloc, 64, 97, 0)?)?;
-    judge(rt, "no nodes", &with(largest, &[(0, 0)])?)?;
-    judge(rt, "65 nodes and nothing else", &[65, 0])?;
-    judge(rt, "no bytes", &[])?;
-    judge(rt, "one byte", &cut(largest, 1)?)?;
-    judge(rt, "a byte short", &cut(largest, 801)?)?;
-    judge(rt, "a byte over", &cut(largest, 803)?)
-}
-
-fn judge_cases(rt: &impl Print, largest: &Vec<u8>, cases: &[Case]) -> io::Result<()> {
-    for &(label, changes) in cases {
-        judge(rt, label, &with(largest, changes)?)?;
-    }
     Ok(())
-}
-
-fn main(rt: HostRuntime) -> io::Result<()> {
-    let alloc = rt.alloc();
-    let largest = sized(alloc, 64, 96, 0)?;
-    judge_sizes(&rt, alloc, &largest)?;
-    judge_cases(&rt, &largest, &WIRES)?;
-    judge_cases(&rt, &largest, &DEPTHS)?;
-    judge(&rt, "256 stations", &sized(alloc, 64, 96, 256)?)?;
-    judge(&rt, "257 stations", &sized(alloc, 64, 96, 257)?)?;
-    judge_cases(&rt, &largest, &TWO_CAUSES)
 }
