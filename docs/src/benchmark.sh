@@ -5,4 +5,4 @@ set -eu
 
 source "$(dirname "${BASH_SOURCE[0]}")/../../tests/library.sh" "${1:-}"
 rustc --edition 2021 -C opt-level=3 -L "$library" -o "$scratch/benchmark" docs/src/benchmark.rs
-"$scratch/benchmark" crates/engine_speed/stdin crates/strict_edges/stdin
+"$scratch/benchmark" tests/images/large.image crates/test_strict/stdin
