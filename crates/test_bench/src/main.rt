@@ -42,7 +42,7 @@ const EMPTY: Case = Case {
 };
 
 // Of the stations the first tells of C's form, with a value beside its clear bit; a void link has none.
-const CASES: [Case; 25] = [
+const CASES: &[Case] = &[
     Case {
         label: "004, table 1",
         tokens: b"123....4..",
@@ -350,7 +350,7 @@ fn show(rt: &impl Print, case: &Case) -> io::Result<()> {
 }
 
 fn main(rt: HostRuntime) -> io::Result<()> {
-    for case in &CASES {
+    for case in CASES {
         show(&rt, case)?;
     }
     Ok(())

@@ -58,7 +58,7 @@ const LAST: u32 = 1000000;
 
 // The numbers of a step, alone and with the causes of those that come after; number 21, each condition in turn; and
 // the numbers of a run.
-const CASES: [Case; 23] = [
+const CASES: &[Case] = &[
     FRESH,
     Case {
         label: "all stalled, 4 places",
@@ -336,13 +336,6 @@ fn show_case(rt: &impl Print, whole: &[u8], case: &Case) -> io::Result<()> {
     Ok(())
 }
 
-fn show_cases(rt: &impl Print, figure4: &[u8]) -> io::Result<()> {
-    for case in &CASES {
-        show_case(rt, figure4, case)?;
-    }
-    Ok(())
-}
-
 // A count node through all 1,000,000 cycles, in ten runs.
 fn run_to_the_limit(words: &[u64]) -> State {
     let mut state = fresh(&COUNTING);
@@ -385,7 +378,9 @@ fn show(rt: &impl Print, figure4: &[u8], stations: &[u8]) -> io::Result<()> {
     trace(rt, stations, STATIONS_WORDS)?;
     show_fresh(rt, "figure 4", figure4)?;
     show_fresh(rt, "a byte short", short(figure4))?;
-    show_cases(rt, figure4)?;
+    for case in CASES {
+        show_case(rt, figure4, case)?;
+    }
     show_64(rt)
 }
 

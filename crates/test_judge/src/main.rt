@@ -43,7 +43,7 @@ const FIRST_STATIONS: usize = 610;
 
 const FIRST_QUEUE: usize = 611;
 
-const CASES: [Case; 24] = [
+const CASES: &[Case] = &[
     LARGEST,
     Case {
         label: "65 nodes",
@@ -197,7 +197,7 @@ fn sized(alloc: Global, n: u8, c: u8, stations: u16) -> Result<Vec<u8>, AllocErr
 }
 
 fn main(rt: HostRuntime) -> io::Result<()> {
-    for case in &CASES {
+    for case in CASES {
         let label = case.label;
         let mut image = sized(rt.alloc(), case.nodes, case.channels, case.stations)?;
         image.resize(case.length, 0)?;

@@ -6,7 +6,7 @@
 use std::io;
 
 // What is printed before a case, its cycle, and how many of the 66 places are lent.
-const CASES: [(&str, u32, usize); 10] = [
+const CASES: &[(&str, u32, usize)] = &[
     ("cycle 0", 0, 66),
     ("cycle 1", 1, 66),
     ("cycle 2", 2, 66),
@@ -35,7 +35,7 @@ fn main(rt: HostRuntime) -> io::Result<()> {
     let input = input::read_to_end(&mut rt.stdin(), &mut bytes).unwrap_or_else(
         |unread| unread.before,
     );
-    for (label, cycle, room) in CASES {
+    for &(label, cycle, room) in CASES {
         show(&rt, label, &bytes[..input.kept], cycle, room)?;
     }
     show(
