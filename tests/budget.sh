@@ -2,7 +2,7 @@
 # What the gate costs, and the rules that keep it so (docs/ARCHITECTURE.md):
 #   bash tests/budget.sh watch FILE   notes in FILE what processor time each check takes, until it is ended
 #   bash tests/budget.sh [FILE]       tests the rules, and with FILE prints the seconds by crate
-# Machines differ, so a crate over its time is a warning. What fails: a computed example outside worked_examples, an exported
+# Machines differ, so a crate over its time is a warning. What fails: a file of computed examples outside worked_examples, an exported
 # function without ensures, and one with requires that is not listed here. The last line is 'N passed, M failed'.
 set -eu
 
@@ -84,21 +84,10 @@ if [ "${1:-}" = watch ]; then
     watch "$2"
 fi
 [ -z "${1:-}" ] || seconds "$1"
-passed=0
-failed=0
+source tests/verdict.sh
 
-# test NAME FAULTS: passed if there are none
-verdict() {
-    if [ -z "$2" ]; then
-        passed=$((passed + 1))
-    else
-        failed=$((failed + 1))
-        echo "failed: $1: $2"
-    fi
-}
-
-verdict "computed examples outside worked_examples" "$(find crates -name 'Examples*.antt' -not -path '*/out/*' | tr '\n' ' ')"
-verdict "exported without ensures" "$(exported | awk '!/ ensures/ { printf "%s ", $1 }')"
+verdict "a file of computed examples outside worked_examples" "$(find crates -name 'Examples*.antt' -not -path '*/out/*' | tr '\n' ' ')"
+verdict "exported without ensures" "$(exported | awk '!/ ensures/ { printf "%s ", $1 } END { if (NR == 0) print "nothing was found" }')"
 verdict "exported with requires" "$(exported | awk -v asking="$asking" '/ requires/ && !index(asking, " " $1 " ") { printf "%s ", $1 }')"
 echo "$passed passed, $failed failed"
 [ "$failed" -eq 0 ]

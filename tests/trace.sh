@@ -20,18 +20,7 @@ if [ ! -x "$program" ]; then
 fi
 scratch=$(mktemp -d)
 trap 'rm -rf "$scratch"' EXIT
-passed=0
-failed=0
-
-# verdict NAME REASON: a case has passed if there is no reason against it
-verdict() {
-    if [ -z "$2" ]; then
-        passed=$((passed + 1))
-    else
-        failed=$((failed + 1))
-        echo "failed: $1: $2"
-    fi
-}
+source "$root/tests/verdict.sh"
 
 # run: the program, on what comes in, with its status kept; one that hangs is ended after a minute
 run() {

@@ -48,6 +48,7 @@ pub fn channel_bench_fresh(image: &[u8], state: &mut [u8]) -> u8
     match State::fresh(image) {
         Ok(fresh) => number(encode::put_state(fresh, state)),
         Err(refused) => {
+            // The judge's number stands, whether or not there is room.
             let _ = encode::put_state(refused.state, state);
             refused.refusal.number()
         }
@@ -79,6 +80,7 @@ pub fn channel_bench_run(image: &[u8], state: &mut [u8], words: &[u64], steps: &
     let ran = engine::run(image, decode::state_in(state), words);
     let number = stop_number(ran.stopped);
     *steps = ran.steps;
+    // In this and the benches there is room: what is stored was read from as many bytes.
     if ran.steps != 0 {
         let _ = encode::put_state(ran.state, state);
     }

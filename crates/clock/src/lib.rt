@@ -57,7 +57,8 @@ fn wires_of(netlist: Netlist) -> [Channel; 96]
 // The state after the cycles of these words. Each cycle is worked from the state at its start, `old`,
 // and written to `s`. It is one function because a state that is handed to another is copied, which
 // costs a tenth of the cycle each time (docs/PERFORMANCE.md). For the same reason the fields of a channel
-// are taken out in both loops over the channels, and once more in `show`. Netlist and state are no struct that
+// are taken out in both loops over the channels, and once more in
+// `readings`. Netlist and state are no struct that
 // says that they fit: `fitted` of the engine would answer a state of 13 kB in a `Result`, beside its caller's own.
 // What is decoded of the netlist stands beside the state's arrays: it is the same in every cycle.
 //

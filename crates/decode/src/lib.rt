@@ -9,16 +9,11 @@ ghost use Rattle.laws.specs.Table.{table};
 ghost use Rattle.image.specs.Image.{four_bytes};
 ghost use Rattle.layout.specs.Bytes.{token_in, node_in, station_in, queue_in, no_state, state_in, no_record, record_in, row_record, record_count};
 
+use layout::{RECORD, STATE};
 use relay::{Row, Station};
 use shell::Queue;
 use state::{Node, State};
 use std::array;
-
-// How many bytes a state has.
-pub const STATE: usize = 10692;
-
-// How many a station record has.
-const RECORD: usize = 9;
 
 fn token_in(bytes: &[u8], at: usize) -> i32
     ensures { result ≡ token_in bytes.now at }

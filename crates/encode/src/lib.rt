@@ -8,17 +8,12 @@ ghost use Rattle.writer.specs.Put.{Put};
 ghost use Rattle.writer.specs.Write.{WriteDone};
 ghost use Rattle.layout.specs.Bytes.{word_bytes, token_bytes, node_bytes, station_bytes, queue_bytes, state_bytes, state_length};
 
+use layout::{RECORD, STATE};
 use refusal::Refusal;
 use relay::Station;
 use shell::Queue;
 use state::{Node, State};
 use writer::Text;
-
-// How many bytes a state has.
-const STATE: usize = 10692;
-
-// How many a station record has.
-const RECORD: usize = 9;
 
 // Numbers of 32 bits.
 struct Words;
