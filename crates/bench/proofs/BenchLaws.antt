@@ -10,22 +10,22 @@ use Rattle.std.proofs.Math.ListN.{length, get_or}
 use Rattle.std.proofs.lemmas.List.{length-map}
 use Rattle.std.specs.Result.{is_ok}
 use Rattle.laws.specs.Below.{all_below}
-use Rattle.laws.specs.BelowLaws.{all_same}
-use Rattle.laws.specs.Cases.{true_or_false, or_right}
+use Rattle.laws.specs.Laws.Below.{all_same}
+use Rattle.laws.specs.Laws.Cases.{true_or_false, or_right}
 use Rattle.laws.specs.Choice.{◌if◌else◌}
 use Rattle.laws.specs.Lists.{holds_two}
 use Rattle.relay.specs.declared.Station.{Station}
 use Rattle.relay.specs.declared.Row.{Row}
 use Rattle.relay.specs.declared.RowCycle.{RowCycle}
 use Rattle.relay.specs.Link.{Link, token, link_of}
-use Rattle.relay.specs.LinkLaws.{link_of-take, passing-holds}
+use Rattle.relay.specs.Laws.Link.{link_of-take, passing-holds}
 use Rattle.relay.specs.Station.{held, station_of, place_after}
 use Rattle.relay.specs.Row.{stopped, leaving, row_after}
-use Rattle.relay.specs.RowLaws.{length-after}
+use Rattle.relay.specs.Laws.Row.{length-after}
 use Rattle.relay.specs.RowCycle.{places, row_cycle, no_station}
 use Rattle.bench.specs.declared.Answer.{Answer}
 use Rattle.refusal.specs.declared.Refusal.{Refusal}
-use Rattle.refusal.specs.NumberLaws.{number_positive}
+use Rattle.refusal.specs.Laws.Number.{number_positive}
 use Rattle.bench.specs.Bench.{Told, told, fits, bench_number, refusal, reply, bench_answer, bench_after, BenchDone}
 use Rattle.bench.specs.ByValue.{station_benched, row_benched}
 

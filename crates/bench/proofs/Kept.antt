@@ -8,19 +8,19 @@ use borrow.Author.Tests.{not-false}
 use Rattle.std.proofs.Math.Dec.{leb, ltb}
 use Rattle.std.proofs.Math.ListN.{length, get_or, length-map, get_or-map, get_or-eq_default}
 use Rattle.laws.specs.Below.{all_below}
-use Rattle.laws.specs.BelowLaws.{all_at, all_from}
-use Rattle.laws.specs.Cases.{and_left, lt-or-ge}
-use Rattle.laws.specs.ChoiceLaws.{past}
+use Rattle.laws.specs.Laws.Below.{all_at, all_from}
+use Rattle.laws.specs.Laws.Cases.{and_left, lt-or-ge}
+use Rattle.laws.specs.Laws.Choice.{past}
 use Rattle.laws.specs.Lists.{holds, one_if, padded, zero_from}
-use Rattle.laws.specs.TableLaws.{get_d_any}
-use Rattle.laws.specs.TestsLaws.{le_iff}
+use Rattle.laws.specs.Laws.Table.{get_d_any}
+use Rattle.laws.specs.Laws.Tests.{le_iff}
 use Rattle.relay.specs.declared.Station.{Station}
 use Rattle.relay.specs.Link.{Link, token, passing}
-use Rattle.relay.specs.LinkLaws.{letter-passing, token_few}
+use Rattle.relay.specs.Laws.Link.{letter-passing, token_few}
 use Rattle.relay.specs.Station.{held, station_of, clear}
-use Rattle.relay.specs.StationLaws.{held_of}
+use Rattle.relay.specs.Laws.Station.{held_of}
 use Rattle.relay.specs.Row.{stopped, leaving, row_after, contents}
-use Rattle.relay.specs.RowLaws.{row_fifo, row_few, link_few, length-after, leaving-at}
+use Rattle.relay.specs.Laws.Row.{row_fifo, row_few, link_few, length-after, leaving-at}
 use Rattle.relay.specs.RowCycle.{no_station}
 use Rattle.bench.specs.Bench.{fits, bench_number, reply, bench_answer, bench_after}
 use Rattle.bench.proofs.BenchLaws.{length_bench}

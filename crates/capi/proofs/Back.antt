@@ -4,18 +4,18 @@
 use Rattle.std.specs.Prelude.{Bool, true, false, List, ◌≡◌, refl, ℕ, ℤ, length}
 use Rattle.std.proofs.Common.{⊎_elim, sym, ap, ◌∙◌, eqb-true}
 use Rattle.std.proofs.Math.Dec.{eqb}
-use Rattle.laws.specs.Cases.{true_or_false}
+use Rattle.laws.specs.Laws.Cases.{true_or_false}
 use Rattle.laws.specs.Choice.{◌if◌else◌}
 use Rattle.verdict.specs.Judge.{judge}
 use Rattle.state.specs.declared.State.{State}
 use Rattle.state.specs.Fresh.{fresh_answer}
 use Rattle.cycle.specs.Cycle.{state_after}
-use Rattle.engine.specs.Answer.{step_of, step_answer, run_answer}
-use Rattle.engine.specs.AnswerLaws.{run_still}
+use Rattle.engine.specs.Answer.{number_of_step, step_answer, run_answer}
+use Rattle.engine.specs.Laws.Answer.{run_still}
 use Rattle.engine.specs.Done.{StepDone}
 use Rattle.layout.specs.Bytes.{state_bytes, state_length, state_in}
 use Rattle.capi.specs.Calls.{fresh_number, fresh_over, state_left, FreshCall, StepCall, RunCall}
-use Rattle.capi.specs.CallsLaws.{state-stored}
+use Rattle.capi.specs.Laws.Calls.{state-stored}
 use Rattle.layout.specs.Typed.{Typed}
 use Rattle.layout.proofs.Back.{state_back}
 
@@ -34,7 +34,7 @@ module _
   unfolding step_answer state_left
   step_bytes =
       let back = state_back s typed in
-      let n : number ≡ step_of img s word letters values = rw back at d.numbered in
+      let n : number ≡ number_of_step img s word letters values = rw back at d.numbered in
       let l : left ≡ (state_bytes (state_after img word s) if eqb number 0 else state_bytes s) = rw back at d.changed in (
         n,
         l ∙ bytes_of_choice (eqb number 0) (state_after img word s) s ∙ rw n,

@@ -9,7 +9,7 @@ use Rattle.relay.specs.declared.Station.{Station}
 use Rattle.state.specs.declared.State.{State}
 use Rattle.state.specs.Fresh.{fresh_answer}
 use Rattle.cycle.specs.Cycle.{state_after}
-use Rattle.engine.specs.Answer.{step_of, letters_written, values_written, run_answer}
+use Rattle.engine.specs.Answer.{number_of_step, letters_written, values_written, run_answer}
 use Rattle.writer.specs.Write.{written_answer, written_over, write_told}
 use Rattle.tracer.specs.Done.{line_answer, line_over, closing_answer, closing_over}
 use Rattle.bench.specs.Bench.{bench_answer, bench_after}
@@ -37,7 +37,7 @@ state_left number s bytes = state_bytes s if eqb number 0 else bytes
 pub record StepCall
     (img bytes : List ℕ) (word : ℕ) (letters : List ℕ) (values : List ℤ) (number : ℕ) (left letters_left : List ℕ) (values_left : List ℤ)
     : Type 0 where
-  pub numbered : number ≡ step_of img (state_in bytes) word letters values
+  pub numbered : number ≡ number_of_step img (state_in bytes) word letters values
   pub changed : left ≡ state_left number (state_after img word (state_in bytes)) bytes
   pub lettered : letters_left ≡ letters_written img (state_in bytes) word letters values
   pub valued : values_left ≡ values_written img (state_in bytes) word letters values

@@ -4,13 +4,13 @@
 
 ghost use Rattle.std.specs.Prelude.{◌≡◌, suc, ◌+◌, ◌<◌, ◌≤◌, length};
 ghost use Rattle.image.specs.Image.{channels};
-ghost use Rattle.pearl.specs.Kind.{code};
+ghost use Rattle.pearl.specs.Kind.{kind_byte};
 ghost use Rattle.pearl.specs.Next.{next_value};
 ghost use Rattle.cycle.specs.Cycle.{stalled, after};
 ghost use Rattle.fitting.specs.Fitting.{Fitting};
-ghost use Rattle.cycle.specs.Parts.{wires_below};
+ghost use Rattle.cycle.specs.Loops.Parts.{wires_below};
 
-use image::Channel;
+use image::Wire;
 use netlist::Netlist;
 use pearl::Kind;
 use state::{Node, State};
@@ -27,7 +27,7 @@ fn stalls(word: u64, n: usize) -> bool
 // words: of firings, of a sum and of a cycle count. That is no one value, so no struct has it.
 fn fired(node: Node, kind: Kind, a: i32, b: i32, c: i32) -> Node
     requires { node.firings < 1000000 }
-    ensures { result ≡ record { value = next_value (code kind) node.value a b c; firings = suc node.firings } }
+    ensures { result ≡ record { value = next_value (kind_byte kind) node.value a b c; firings = suc node.firings } }
 {
     Node {
         value: kind.next(node.value, a, b, c),
@@ -36,11 +36,11 @@ fn fired(node: Node, kind: Kind, a: i32, b: i32, c: i32) -> Node
 }
 
 // The fields of all channels. By index, since the netlist is asked for each channel by its number.
-fn wires_of(netlist: Netlist) -> [Channel; 96]
+fn wires_of(netlist: Netlist) -> [Wire; 96]
     ensures { result ≡ wires_below netlist.entry.image.now (channels netlist.entry.image.now) }
 {
     // By hand: only this array wants a channel of zeros, and its definition names them.
-    let none = Channel {
+    let none = Wire {
         from: 0,
         to: 0,
         port: 0,
@@ -49,7 +49,7 @@ fn wires_of(netlist: Netlist) -> [Channel; 96]
     };
     let mut wires = [none; 96];
     for c in 0..netlist.channels() {
-        wires[c as usize] = netlist.channel(c);
+        wires[c as usize] = netlist.wire(c);
     }
     wires
 }
@@ -84,10 +84,10 @@ pub fn cycles(netlist: Netlist, state: State, words: &[u64]) -> State
         let mut brought = [0; 192];
         let mut blocked = [false; 64];
         for c in 0..channels {
-            let channel = wires[c];
-            let from = channel.from as usize;
-            let to = channel.to as usize;
-            let length = channel.stations as usize;
+            let wire = wires[c];
+            let from = wire.from as usize;
+            let to = wire.to as usize;
+            let length = wire.stations as usize;
             let node = old.nodes[from];
             let queue = old.queues[c];
             let pending = old.pending[c] == 1;
@@ -97,10 +97,10 @@ pub fn cycles(netlist: Netlist, state: State, words: &[u64]) -> State
                     old.stations[8 * c].full(),
                 )
             } else {
-                (pending.then_some(node.value), queue.full(channel.depth))
+                (pending.then_some(node.value), queue.full(wire.depth))
             };
             let input = queue.input(link);
-            brought[3 * to + channel.port as usize] = input.unwrap_or(0);
+            brought[3 * to + wire.port as usize] = input.unwrap_or(0);
             starved[to] = starved[to] | input.is_none();
             blocked[from] = blocked[from] | shell::blocked(pending, stop);
         }
@@ -121,14 +121,14 @@ pub fn cycles(netlist: Netlist, state: State, words: &[u64]) -> State
         }
         // What passes moves on.
         for c in 0..channels {
-            let channel = wires[c];
-            let from = channel.from as usize;
-            let to = channel.to as usize;
-            let length = channel.stations as usize;
+            let wire = wires[c];
+            let from = wire.from as usize;
+            let to = wire.to as usize;
+            let length = wire.stations as usize;
             let node = old.nodes[from];
             let queue = old.queues[c];
             let pending = old.pending[c] == 1;
-            let full = queue.full(channel.depth);
+            let full = queue.full(wire.depth);
             let mut stop = full;
             if 0 < length {
                 stop = old.stations[8 * c].full();

@@ -8,7 +8,7 @@ use Rattle.image.specs.Image.{channels, from, to, depth}
 use Rattle.node.specs.Node.{next_of}
 use Rattle.relay.specs.Link.{Link}
 use Rattle.relay.specs.declared.Reading.{Reading}
-use Rattle.shell.specs.Channel.{Channel, blocked, input, stop_above, seen, channel_after}
+use Rattle.shell.specs.Channel.{Channel, blocked, input, stop_above, channel_reading, channel_after}
 use Rattle.state.specs.declared.Node.{Node}
 use Rattle.state.specs.declared.State.{State}
 use Rattle.state.specs.State.{node_at, value_at, firings_at, channel_in, state_of}
@@ -27,8 +27,8 @@ module _ (img : List ℕ) (s : State) where
   blocked_at c = blocked (holds (channel_in img s c).source) (stop_above (depth img c) (channel_in img s c))
 
   -- channel c's letter and value in the cycle
-  unfoldable pub seen_at : ℕ → Reading
-  seen_at c = seen (depth img c) (channel_in img s c)
+  unfoldable pub reading_at : ℕ → Reading
+  reading_at c = channel_reading (depth img c) (channel_in img s c)
 
   -- data validation: "all [of node n's] inputs are ready"
   unfoldable pub all_ready : ℕ → Bool
@@ -50,12 +50,12 @@ module _ (img : List ℕ) (word : ℕ) (s : State) where
       node_at s n
 
   -- "Then a passed token leaves its place and enters the next. Firing .. makes [the next value] pending on all its channels"
-  unfoldable pub channel_next : ℕ → Channel
-  channel_next c = channel_after (depth img c) (channel_in img s c) (fires (to img c)) (fires (from img c)) (node_after (from img c)).value
+  unfoldable pub channel_after_at : ℕ → Channel
+  channel_after_at c = channel_after (depth img c) (channel_in img s c) (fires (to img c)) (fires (from img c)) (node_after (from img c)).value
 
   -- "The cycle count rises by 1."
   unfoldable pub state_after : State
-  state_after = state_of img (suc s.cycles) node_after channel_next
+  state_after = state_of img (suc s.cycles) node_after channel_after_at
 
 -- the state after the cycles of these words, in order
 unfoldable pub after : List ℕ → State → List ℕ → State
@@ -64,7 +64,7 @@ after img s (word ∷ words) = after img (state_after img word s) words
 
 -- the C letters and the C values of the cycle
 unfoldable pub letters_of : List ℕ → State → List ℕ
-letters_of img s = table (λ c. (seen_at img s c).letter) (channels img)
+letters_of img s = table (λ c. (reading_at img s c).letter) (channels img)
 
 unfoldable pub values_of : List ℕ → State → List ℤ
-values_of img s = table (λ c. (seen_at img s c).value) (channels img)
+values_of img s = table (λ c. (reading_at img s c).value) (channels img)

@@ -62,7 +62,7 @@ fn nodes_in(bytes: &[u8]) -> [Node; 64]
     array::from_fn(|n| node_in(bytes, 4 + 8 * n))
 }
 
-fn marks_in(bytes: &[u8]) -> [u8; 96]
+fn pending_in(bytes: &[u8]) -> [u8; 96]
     requires { 612 ≤ length bytes.now }
     ensures { result ≡ table (λ c. get_or bytes.now (516 + c) 0) 96 }
 {
@@ -103,7 +103,7 @@ pub fn state_in(bytes: &[u8]) -> State
     State {
         cycles: image::four_bytes(bytes, 0),
         nodes: nodes_in(bytes),
-        pending: marks_in(bytes),
+        pending: pending_in(bytes),
         stations: stations_in(bytes),
         queues: queues_in(bytes),
     }

@@ -4,9 +4,9 @@
 
 ghost use mathlib.Core.List.{flat_map, ◌++◌};
 ghost use Rattle.std.specs.Prelude.{[], ◌∷◌, ◌≡◌, ◌+◌, ◌≤◌, length};
-ghost use Rattle.writer.specs.Put.{Put};
+ghost use Rattle.writer.specs.Loops.Put.{Put};
 ghost use Rattle.writer.specs.Write.{WriteDone};
-ghost use Rattle.layout.specs.Bytes.{word_bytes, token_bytes, node_bytes, station_bytes, queue_bytes, state_bytes, state_length};
+ghost use Rattle.layout.specs.Bytes.{number_bytes, token_bytes, node_bytes, station_bytes, queue_bytes, state_bytes, state_length};
 
 use layout::{RECORD, STATE};
 use refusal::Refusal;
@@ -19,7 +19,7 @@ use writer::Text;
 struct Words;
 
 impl Text<u32> for Words {
-    ghost text = { word_bytes };
+    ghost text = { number_bytes };
 
     fn put(item: u32, out: &mut [u8], at: usize) -> usize {
         writer::put_bytes(&item.to_le_bytes(), out, at)
@@ -49,7 +49,7 @@ impl Text<Node> for Nodes {
 }
 
 // Tokens, and then how many of them are held.
-#[tactic(auto, using(writer::specs::PutLaws::put_steps))]
+#[tactic(auto, using(writer::specs::Loops::PutLaws::put_steps))]
 fn put_counted(tokens: &[i32], count: u8, out: &mut [u8], at: usize) -> usize
     requires { at + length (flat_map token_bytes tokens.now ++ (count ∷ [])) ≤ length out.old }
     ensures { Put (flat_map token_bytes tokens.now ++ (count ∷ [])) at out.old out.new result }
@@ -87,12 +87,12 @@ fn put_parts(state: State, out: &mut [u8]) -> usize
     ensures { Put (state_bytes state) 0 out.old out.new result }
 {
     let nodes = state.nodes;
-    let marks = state.pending;
+    let pending = state.pending;
     let stations = state.stations;
     let queues = state.queues;
     let first = Words::put(state.cycles, out, 0);
     let second = writer::put_all::<Nodes, Node>(&nodes, out, first);
-    let third = writer::put_bytes(&marks, out, second);
+    let third = writer::put_bytes(&pending, out, second);
     let fourth = writer::put_all::<Stations, Station>(&stations, out, third);
     writer::put_all::<Queues, Queue>(&queues, out, fourth)
 }

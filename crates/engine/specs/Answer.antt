@@ -31,17 +31,17 @@ step_number img s word letters values =
 -- what a step that is lent arrays that hold `letters` and `values` answers, and what they hold after it. "A refusal changes no lent byte and returns
 -- the state it was handed"
 module _ (img : List ℕ) (s : State) (word : ℕ) (letters : List ℕ) (values : List ℤ) where
-  unfoldable pub step_of : ℕ
-  step_of = step_number img s word (length letters) (length values)
+  unfoldable pub number_of_step : ℕ
+  number_of_step = step_number img s word (length letters) (length values)
 
   unfoldable pub step_answer : Told
-  step_answer = record { number = step_of; state = state_after img word s if eqb step_of 0 else s }
+  step_answer = record { number = number_of_step; state = state_after img word s if eqb number_of_step 0 else s }
 
   unfoldable pub letters_written : List ℕ
-  letters_written = (letters_of img s ++ drop (channels img) letters) if eqb step_of 0 else letters
+  letters_written = (letters_of img s ++ drop (channels img) letters) if eqb number_of_step 0 else letters
 
   unfoldable pub values_written : List ℤ
-  values_written = (values_of img s ++ drop (channels img) values) if eqb step_of 0 else values
+  values_written = (values_of img s ++ drop (channels img) values) if eqb number_of_step 0 else values
 
 -- ---- the run
 -- what its answer tells

@@ -6,7 +6,7 @@ ghost use Rattle.refusal.specs.Number.{number_of};
 ghost use Rattle.state.specs.Told.{told};
 ghost use Rattle.fitting.specs.Fitting.{Fitting};
 ghost use Rattle.engine.specs.Answer.{sets_above, step_number, run_told};
-ghost use Rattle.engine.specs.Taken.{state_number, taken_told, taken_from};
+ghost use Rattle.engine.specs.Loops.Taken.{state_number, taken_told, taken_from};
 ghost use Rattle.engine.specs.Done.{StepDone, RunDone};
 
 use netlist::Netlist;

@@ -9,11 +9,11 @@ use Rattle.std.specs.List.{list_all}
 use Rattle.std.proofs.lemmas.List.Folds.{list_all-append}
 use Rattle.laws.specs.Below.{all_below, sum_below}
 use Rattle.std.proofs.lemmas.List.{get_or-drop, get_or-take, length-take-le}
-use Rattle.laws.specs.BelowLaws.{all_from, all_same, sum_same}
-use Rattle.laws.specs.Cases.{lt-or-ge}
+use Rattle.laws.specs.Laws.Below.{all_from, all_same, sum_same}
+use Rattle.laws.specs.Laws.Cases.{lt-or-ge}
 use Rattle.relay.specs.declared.Station.{Station}
 use Rattle.relay.specs.RowCycle.{no_station}
-use Rattle.fitting.specs.FitsPasses.{counted}
+use Rattle.fitting.specs.Loops.Passes.{counted}
 
 module _ {A : Type 0} (test : A → Bool) (d : A) where
   pub front : (l : List A) (n : ℕ) → n ≤ length l → list_all test (take n l) ≡ all_below (λ i. test (get_or l i d)) n

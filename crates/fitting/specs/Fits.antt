@@ -6,7 +6,7 @@ use Rattle.laws.specs.Signed.{is_zero}
 use Rattle.image.specs.Image.{nodes, channels, from, to, stations, depth}
 use Rattle.relay.specs.Station.{clear}
 use Rattle.state.specs.declared.State.{State}
-use Rattle.state.specs.State.{value_at, firings_at, mark_at, station_at, queue_at}
+use Rattle.state.specs.State.{value_at, firings_at, pending_at, station_at, queue_at}
 
 module _ (img : List ℕ) (s : State) where
   -- "the cycle count is at most 1,000,000;"
@@ -18,8 +18,8 @@ module _ (img : List ℕ) (s : State) where
   firings_fit = all_below (λ n. leb (firings_at s n) s.cycles) (nodes img)
 
   -- "pending marks are 0 or 1;"
-  unfoldable pub marks_fit : Bool
-  marks_fit = all_below (λ c. leb (mark_at s c) 1) (channels img)
+  unfoldable pub pending_fit : Bool
+  pending_fit = all_below (λ c. leb (pending_at s c) 1) (channels img)
 
   -- "station and queue counts are within their depths;"
   unfoldable pub stations_fit : ℕ → Bool
@@ -33,8 +33,8 @@ module _ (img : List ℕ) (s : State) where
   unfoldable pub node_clear : ℕ → Bool
   node_clear n = ltb n (nodes img) || (is_zero (value_at s n) && eqb (firings_at s n) 0)
 
-  unfoldable pub mark_clear : ℕ → Bool
-  mark_clear c = ltb c (channels img) || eqb (mark_at s c) 0
+  unfoldable pub pending_clear : ℕ → Bool
+  pending_clear c = ltb c (channels img) || eqb (pending_at s c) 0
 
   unfoldable pub station_clear : ℕ → ℕ → Bool
   station_clear c j =
@@ -44,14 +44,14 @@ module _ (img : List ℕ) (s : State) where
   queue_clear c = zero_from 8 (queue_at s c).count (queue_at s c).tokens && (ltb c (channels img) || eqb (queue_at s c).count 0)
 
   unfoldable pub unused_clear : Bool
-  unused_clear = all_below node_clear 64 && all_below (λ c. mark_clear c && all_below (station_clear c) 8 && queue_clear c) 96
+  unused_clear = all_below node_clear 64 && all_below (λ c. pending_clear c && all_below (station_clear c) 8 && queue_clear c) 96
 
   -- "and for each channel, pending + stations + queue = firings of from + 1 − firings of to." What is taken away on the right is added on the left,
   -- so that a state where it is too much does not pass
   unfoldable pub balanced : ℕ → Bool
   balanced c =
-      eqb (mark_at s c + sum_below (λ j. (station_at s c j).count) (stations img c) + (queue_at s c).count + firings_at s (to img c))
+      eqb (pending_at s c + sum_below (λ j. (station_at s c j).count) (stations img c) + (queue_at s c).count + firings_at s (to img c))
       (firings_at s (from img c) + 1)
 
   unfoldable pub fits : Bool
-  fits = cycles_fit && firings_fit && marks_fit && counts_fit && unused_clear && all_below balanced (channels img)
+  fits = cycles_fit && firings_fit && pending_fit && counts_fit && unused_clear && all_below balanced (channels img)

@@ -2,9 +2,5 @@
 pub mod Fits
 -- a state that fits, as facts
 pub mod Fitting
-pub mod Places
-pub mod FitsLaws
-pub mod FittingLaws
--- what the code's loops hold
-pub mod FitsPasses
-pub mod FitsPassesLaws
+pub mod Laws
+pub mod Loops

@@ -3,7 +3,7 @@
 ghost use Rattle.std.specs.Prelude.{◌≡◌, ◌+◌, ◌<◌, ◌≤◌, length, eqb};
 ghost use Rattle.laws.specs.Lists.{zero_from};
 ghost use Rattle.image.specs.Image.{channels};
-ghost use Rattle.fitting.specs.FitsPasses.{counted, empty_node, empty_station, empty_queue, nodes_fit, channel_fits, channels_fit, contents_clear, channels_clear};
+ghost use Rattle.fitting.specs.Loops.Passes.{counted, empty_node, empty_station, empty_queue, nodes_fit, channel_fits, channels_fit, contents_clear, channels_clear};
 
 use netlist::Netlist;
 use relay::{Row, Station};
@@ -12,7 +12,7 @@ use state::{Node, State};
 
 // Whether a node that is not there is 0 throughout. Place by place, here and in the next three: the definition
 // of number 21 names the places, and a derived `==` would want a law for each type that takes it to them.
-#[tactic(auto, using(laws::specs::SignedLaws::zero_bits), unfolding(crate::specs::FitsPasses::empty_node))]
+#[tactic(auto, using(laws::specs::Laws::Signed::zero_bits), unfolding(crate::specs::Loops::Passes::empty_node))]
 fn empty_node(node: Node) -> bool
     ensures { result ≡ empty_node node }
 {
@@ -20,7 +20,7 @@ fn empty_node(node: Node) -> bool
 }
 
 // Whether a station that is not there holds no token, and is 0 throughout.
-#[tactic(auto, unfolding(crate::specs::FitsPasses::empty_station))]
+#[tactic(auto, unfolding(crate::specs::Loops::Passes::empty_station))]
 fn empty_station(station: Station) -> bool
     ensures { result ≡ empty_station station }
 {
@@ -36,7 +36,7 @@ fn clear_queue(queue: Queue) -> bool
 }
 
 // Whether a queue that is not there holds no token, and is 0 throughout.
-#[tactic(auto, unfolding(crate::specs::FitsPasses::empty_queue))]
+#[tactic(auto, unfolding(crate::specs::Loops::Passes::empty_queue))]
 fn empty_queue(queue: Queue) -> bool
     ensures { result ≡ empty_queue queue }
 {
@@ -71,29 +71,29 @@ fn held(row: &[Station]) -> u16
 
 // "pending + stations + queue = firings of from + 1 - firings of to". What is taken away on the right
 // is added on the left.
-fn balanced(mark: u8, held: u16, waiting: u8, from: u32, to: u32) -> bool
-    ensures { result ≡ eqb (mark + held + waiting + to) (from + 1) }
+fn balanced(pending: u8, held: u16, waiting: u8, from: u32, to: u32) -> bool
+    ensures { result ≡ eqb (pending + held + waiting + to) (from + 1) }
 {
-    mark as u64 + held as u64 + waiting as u64 + to as u64 == from as u64 + 1
+    pending as u64 + held as u64 + waiting as u64 + to as u64 == from as u64 + 1
 }
 
 // A channel: "pending marks are 0 or 1; station and queue counts are within their depths", and it is
 // balanced.
-#[tactic(auto, using(verdict::specs::AcceptedLaws::channels_few))]
+#[tactic(auto, using(verdict::specs::Laws::Accepted::channels_few))]
 fn channel_fits(netlist: Netlist, state: &State, c: u8) -> bool
     requires { c < channels netlist.image.now }
     ensures { result ≡ channel_fits netlist.entry.image.now state.now c }
 {
-    let channel = netlist.channel(c);
+    let wire = netlist.wire(c);
     let at = usize::from(c);
-    let row = &state.stations[8 * at..8 * at + usize::from(channel.stations)];
-    let mark = state.pending[at];
+    let row = &state.stations[8 * at..8 * at + usize::from(wire.stations)];
+    let pending = state.pending[at];
     let queue = state.queues[at];
-    let from = state.nodes[usize::from(channel.from)];
-    let to = state.nodes[usize::from(channel.to)];
+    let from = state.nodes[usize::from(wire.from)];
+    let to = state.nodes[usize::from(wire.to)];
     let stations = row.iter().all(|station| station.count <= Station::DEPTH);
-    let counts = (mark <= 1) & (stations & (queue.count <= channel.depth));
-    counts & balanced(mark, held(row), queue.count, from.firings, to.firings)
+    let counts = (pending <= 1) & (stations & (queue.count <= wire.depth));
+    counts & balanced(pending, held(row), queue.count, from.firings, to.firings)
 }
 
 pub(crate) fn channels_fit(netlist: Netlist, state: &State) -> bool
@@ -103,13 +103,13 @@ pub(crate) fn channels_fit(netlist: Netlist, state: &State) -> bool
 }
 
 // A channel: places that no station of the image and no held token uses are 0.
-#[tactic(auto, using(verdict::specs::AcceptedLaws::channels_few))]
+#[tactic(auto, using(verdict::specs::Laws::Accepted::channels_few))]
 fn contents_clear(netlist: Netlist, state: &State, c: u8) -> bool
     requires { c < channels netlist.image.now }
     ensures { result ≡ contents_clear netlist.entry.image.now state.now c }
 {
     let start = 8 * usize::from(c);
-    let end = start + usize::from(netlist.channel(c).stations);
+    let end = start + usize::from(netlist.wire(c).stations);
     let used = state.stations[start..end]
         .iter()
         .all(|station| station.clear());
@@ -126,12 +126,14 @@ pub(crate) fn channels_clear(netlist: Netlist, state: &State) -> bool
     let count = netlist.channels();
     let channels = usize::from(count);
     let used = (0..count).all(|c| contents_clear(netlist, state, c));
-    let marks = state.pending[channels..].iter().all(|mark| *mark == 0);
+    let idle = state.pending[channels..]
+        .iter()
+        .all(|pending| *pending == 0);
     let stations = state.stations[8 * channels..]
         .iter()
         .all(|station| empty_station(*station));
     let queues = state.queues[channels..]
         .iter()
         .all(|queue| empty_queue(*queue));
-    ((used & marks) & stations) & queues
+    ((used & idle) & stations) & queues
 }

@@ -4,10 +4,10 @@ use Rattle.image.specs.Image.{nodes, channels, kind, parameter, from, to, port, 
 
 -- every byte before the depths is the same: they differ in station and queue bytes only
 abbrev pub SameButDepths : List ℕ → List ℕ → Type 0
-SameButDepths img jmg = (at : ℕ) → at < depths img 0 → get_or img at 0 ≡ get_or jmg at 0
+SameButDepths img other = (at : ℕ) → at < depths img 0 → get_or img at 0 ≡ get_or other at 0
 
 -- the same by fields. `AlikeLaws` proves that such images have it.
-pub record Alike (img jmg : List ℕ) : Type 0 where
-  pub sizes : (nodes img ≡ nodes jmg) × (channels img ≡ channels jmg)
-  pub cores : (n : ℕ) → n < nodes img → (kind img n ≡ kind jmg n) × (parameter img n ≡ parameter jmg n)
-  pub wires : (c : ℕ) → c < channels img → (from img c ≡ from jmg c) × (to img c ≡ to jmg c) × (port img c ≡ port jmg c)
+pub record Alike (img other : List ℕ) : Type 0 where
+  pub sizes : (nodes img ≡ nodes other) × (channels img ≡ channels other)
+  pub cores : (n : ℕ) → n < nodes img → (kind img n ≡ kind other n) × (parameter img n ≡ parameter other n)
+  pub wires : (c : ℕ) → c < channels img → (from img c ≡ from other c) × (to img c ≡ to other c) × (port img c ≡ port other c)

@@ -3,8 +3,5 @@ pub mod Image
 pub mod Readers
 -- For other crates: images that differ in their depths; arrays with a place for each port, which the channels fill.
 pub mod Alike
-pub mod AlikeLaws
-pub mod Ports
-pub mod PortsLaws
--- Laws behind these.
-pub mod ImageLaws
+pub mod Laws
+pub mod Loops

@@ -1,7 +1,7 @@
 -- What the readers of a node's and of a channel's fields answer.
 use Rattle.std.specs.Prelude.{List, ℕ, ◌<◌, ◌≤◌}
 use Rattle.image.specs.declared.Core.{Core}
-use Rattle.image.specs.declared.Channel.{Channel}
+use Rattle.image.specs.declared.Wire.{Wire}
 use Rattle.image.specs.Image.{kind, parameter, from, to, port, stations, depth}
 
 -- node n's fields
@@ -9,12 +9,12 @@ unfoldable pub core_at : List ℕ → ℕ → Core
 core_at img n = record { kind = kind img n; parameter = parameter img n }
 
 -- channel c's fields
-unfoldable pub channel_at : List ℕ → ℕ → Channel
-channel_at img c =
+unfoldable pub wire_at : List ℕ → ℕ → Wire
+wire_at img c =
     record { from = from img c; to = to img c; port = port img c; stations = stations img c; depth = depth img c }
 
 -- the fields of a channel that is there, in an accepted image: between nodes and at a port that have their places
-pub record Placed (w : Channel) : Type 0 where
+pub record Placed (w : Wire) : Type 0 where
   pub from : w.from < 64
   pub to : w.to < 64
   pub port : w.port < 3

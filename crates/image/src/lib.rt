@@ -5,7 +5,7 @@
 ghost use Rattle.std.specs.Prelude.{◌≡◌, get_or};
 ghost use Rattle.laws.specs.Signed.{signed};
 ghost use Rattle.image.specs.Image.{nodes, channels, kind, four_bytes};
-ghost use Rattle.image.specs.Readers.{core_at, channel_at};
+ghost use Rattle.image.specs.Readers.{core_at, wire_at};
 
 // A node's fields. The kind is a number, 1 to 9 in an accepted image: one that the judge has not looked at may
 // be no kind.
@@ -18,7 +18,7 @@ pub struct Core {
 // A channel's fields: the nodes at its ends, the input port of the node that it leads to, how many
 // relay stations stand on it, and the depth of the queue at its end.
 #[derive(Clone, Copy)]
-pub struct Channel {
+pub struct Wire {
     pub from: u8,
     pub to: u8,
     pub port: u8,
@@ -95,15 +95,15 @@ pub fn core_at(image: &[u8], n: u8) -> Core
 }
 
 // Channel c's fields, each 0 past the image's end.
-#[tactic(auto, unfolding(crate::specs::Readers::channel_at, crate::specs::Image::from, crate::specs::Image::to, crate::specs::Image::port, crate::specs::Image::stations, crate::specs::Image::depth, crate::specs::Image::wire, crate::specs::Image::depths))]
-pub fn channel_at(image: &[u8], c: u8) -> Channel
-    ensures { result ≡ channel_at image.now c }
+#[tactic(auto, unfolding(crate::specs::Readers::wire_at, crate::specs::Image::from, crate::specs::Image::to, crate::specs::Image::port, crate::specs::Image::stations, crate::specs::Image::depth, crate::specs::Image::wire, crate::specs::Image::depths))]
+pub fn wire_at(image: &[u8], c: u8) -> Wire
+    ensures { result ≡ wire_at image.now c }
 {
     let i = c as usize;
     let wires = 2 + 5 * nodes(image) as usize;
     let wire = wires + 3 * i;
     let depths = wires + 3 * channels(image) as usize + 2 * i;
-    Channel {
+    Wire {
         from: byte_at(image, wire),
         to: byte_at(image, wire + 1),
         port: byte_at(image, wire + 2),

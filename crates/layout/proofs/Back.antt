@@ -3,7 +3,7 @@
 use Rattle.std.specs.Prelude.{◌≡◌}
 use Rattle.state.specs.declared.State.{State}
 use Rattle.layout.specs.Bytes.{state_bytes, state_in}
-use Rattle.layout.specs.BytesLaws.{state_long}
+use Rattle.layout.specs.Laws.Bytes.{state_long}
 use Rattle.layout.specs.Typed.{Typed}
 use Rattle.layout.proofs.BackLaws.{places_back}
 

@@ -8,22 +8,22 @@ use Rattle.std.proofs.Math.Arith.{digits_div}
 use Rattle.std.proofs.Math.ListN.{get_or, get_or-append}
 use Rattle.std.proofs.Math.Seq.{get_or-append_seam}
 use Rattle.std.specs.Int.Signed.{mag}
-use Rattle.laws.specs.Cases.{below_suc}
+use Rattle.laws.specs.Laws.Cases.{below_suc}
 use Rattle.laws.specs.Signed.{signed}
-use Rattle.laws.specs.SignedLaws.{signed_low, signed_high}
+use Rattle.laws.specs.Laws.Signed.{signed_low, signed_high}
 use Rattle.laws.specs.Table.{table}
-use Rattle.laws.specs.TableLaws.{length-table, table_at, table_same, table_own}
+use Rattle.laws.specs.Laws.Table.{length-table, table_at, table_same, table_own}
 use Rattle.image.specs.Image.{four_bytes}
 use Rattle.relay.specs.declared.Station.{Station}
 use Rattle.relay.specs.RowCycle.{no_station}
 use Rattle.shell.specs.declared.Queue.{Queue}
 use Rattle.state.specs.declared.Node.{Node}
 use Rattle.state.specs.declared.State.{State}
-use Rattle.state.specs.State.{no_node, no_queue, node_at, mark_at, queue_at}
-use Rattle.writer.specs.ItemsLaws.{flat_next}
-use Rattle.layout.specs.Bytes.{each, word_bytes, bits_of, token_bytes, node_bytes, station_bytes, queue_bytes, state_bytes}
+use Rattle.state.specs.State.{no_node, no_queue, node_at, pending_at, queue_at}
+use Rattle.writer.specs.Laws.Items.{flat_next}
+use Rattle.layout.specs.Bytes.{each, number_bytes, bits_of, token_bytes, node_bytes, station_bytes, queue_bytes, state_bytes}
 use Rattle.layout.specs.Bytes.{token_in, node_in, station_in, queue_in, places_in}
-use Rattle.layout.specs.BytesLaws.{bits_few, word_long, token_long, node_long, station_long, queue_long, each_long}
+use Rattle.layout.specs.Laws.Bytes.{bits_few, number_long, token_long, node_long, station_long, queue_long, each_long}
 use Rattle.layout.specs.Typed.{Typed}
 
 -- ---- behind other bytes
@@ -31,16 +31,16 @@ module _ (xs ys : List ℕ) where
   byte_behind : (k j : ℕ) → get_or (xs ++ ys) (length xs + k + j) 0 ≡ get_or ys (k + j) 0
   byte_behind k j = rw (add_assoc (length xs) k j) (get_or-append-add xs ys (k + j) 0)
 
-  pub word-behind : (k : ℕ) → four_bytes (xs ++ ys) (length xs + k) ≡ four_bytes ys k
-  word-behind k = rw (get_or-append-add xs ys k 0, byte_behind k 1, byte_behind k 2, byte_behind k 3)
+  pub number-behind : (k : ℕ) → four_bytes (xs ++ ys) (length xs + k) ≡ four_bytes ys k
+  number-behind k = rw (get_or-append-add xs ys k 0, byte_behind k 1, byte_behind k 2, byte_behind k 3)
 
   pub token-behind : (k : ℕ) → token_in (xs ++ ys) (length xs + k) ≡ token_in ys k
   unfolding token_in
-  token-behind k = rw (word-behind k)
+  token-behind k = rw (number-behind k)
 
   pub node_behind : (k : ℕ) → node_in (xs ++ ys) (length xs + k) ≡ node_in ys k
   unfolding node_in
-  node_behind k = rw (token-behind k, add_assoc (length xs) k 4, word-behind (k + 4))
+  node_behind k = rw (token-behind k, add_assoc (length xs) k 4, number-behind (k + 4))
 
   pub station-behind : (k : ℕ) → station_in (xs ++ ys) (length xs + k) ≡ station_in ys k
   unfolding station_in
@@ -75,9 +75,9 @@ module _
   each_back g n i xs ys at h good e = rw (← e) (behind xs (each f g n ++ ys) (w * i) ∙ each_front g n i ys h good)
 
 -- ---- at the front
-pub word_front : (n : ℕ) (ys : List ℕ) → n < 2 ^ 32 → four_bytes (word_bytes n ++ ys) 0 ≡ n
-unfolding word_bytes
-word_front n ys h =
+pub number_front : (n : ℕ) (ys : List ℕ) → n < 2 ^ 32 → four_bytes (number_bytes n ++ ys) 0 ≡ n
+unfolding number_bytes
+number_front n ys h =
     let b : n / 256 ≡ 256 * (n / 65536) + n / 256 % 256 = omega (arith, second) in
     let c : n / 65536 ≡ 256 * (n / 16777216) + n / 65536 % 256 = omega (arith, third) in
     let few : n / 16777216 < 256 = omega arith in
@@ -103,7 +103,7 @@ signed-bits (negsuc n) h = signed_high (2 ^ 32 - suc n) (omega arith) ∙ ap neg
 
 pub token_front : (z : ℤ) (ys : List ℕ) → mag z < 2 ^ 31 → token_in (token_bytes z ++ ys) 0 ≡ z
 unfolding token_in token_bytes
-token_front z ys h = rw (word_front (bits_of z) ys (bits_few z h)) (signed-bits z h)
+token_front z ys h = rw (number_front (bits_of z) ys (bits_few z h)) (signed-bits z h)
 
 -- a list, read one by one
 own : {A : Type 0} (l : List A) (d : A) (n : ℕ) → length l ≡ n → table (λ i. get_or l i d) n ≡ l
@@ -135,11 +135,11 @@ pub node_front : (n : Node) (ys : List ℕ) → GoodNode n → node_in (node_byt
 unfolding node_in node_bytes
 node_front n ys good =
     let first = token_bytes n.value in
-    let rest = word_bytes n.firings ++ ys in
+    let rest = number_bytes n.firings ++ ys in
     let p : 4 ≡ length first + 0 = rw token_long in
     let f : four_bytes (first ++ rest) 4 ≡ n.firings =
-    ap (λ k. four_bytes (first ++ rest) k) p ∙ word-behind first rest 0 ∙ word_front n.firings ys good.1 in
-    rw (append_assoc first (word_bytes n.firings) ys)
+    ap (λ k. four_bytes (first ++ rest) k) p ∙ number-behind first rest 0 ∙ number_front n.firings ys good.1 in
+    rw (append_assoc first (number_bytes n.firings) ys)
     (ap₂ (λ value firings. record { value = value; firings = firings }) (token_front n.value rest good.0) f)
 
 pub station_front : (s : Station) (ys : List ℕ) → GoodTokens 2 s.tokens → station_in (station_bytes s ++ ys) 0 ≡ s
@@ -161,13 +161,13 @@ queue_front q ys good =
 -- ---- a state, part by part
 module _ (s : State) (typed : Typed s) where
   abbrev cycles : List ℕ
-  cycles = word_bytes s.cycles
+  cycles = number_bytes s.cycles
 
   abbrev cores : List ℕ
   cores = each node_bytes (node_at s) 64
 
-  abbrev marks : List ℕ
-  marks = table (mark_at s) 96
+  abbrev pending : List ℕ
+  pending = table (pending_at s) 96
 
   abbrev stations : List ℕ
   stations = each station_bytes (λ i. get_or s.stations i no_station) 768
@@ -177,47 +177,47 @@ module _ (s : State) (typed : Typed s) where
 
   cycles_back : four_bytes (state_bytes s) 0 ≡ s.cycles
   unfolding state_bytes
-  cycles_back = word_front s.cycles (cores ++ (marks ++ (stations ++ queues))) typed.cycled
+  cycles_back = number_front s.cycles (cores ++ (pending ++ (stations ++ queues))) typed.cycled
 
   nodes_back : table (λ n. node_in (state_bytes s) (4 + 8 * n)) 64 ≡ s.nodes
   unfolding state_bytes node_at
   nodes_back =
       table_same (λ n. node_in (state_bytes s) (4 + 8 * n)) (node_at s) 64
       (λ n h.
-      each_back node_bytes node_in 8 node_long node_behind GoodNode node_front (node_at s) 64 n cycles (marks ++ (stations ++ queues)) 4 h
-      (typed.valued n h, typed.fired n h) (word_long s.cycles))
+      each_back node_bytes node_in 8 node_long node_behind GoodNode node_front (node_at s) 64 n cycles (pending ++ (stations ++ queues)) 4 h
+      (typed.valued n h, typed.fired n h) (number_long s.cycles))
       ∙ own s.nodes no_node 64 typed.shaped.nodes
 
   -- what stands before the marks, the stations and the queues
-  before_marks : length (cycles ++ cores) ≡ 516
-  before_marks = length-append cycles cores ∙ rw (word_long, each_long node_bytes 8 node_long (node_at s) 64)
+  before_pending : length (cycles ++ cores) ≡ 516
+  before_pending = length-append cycles cores ∙ rw (number_long, each_long node_bytes 8 node_long (node_at s) 64)
 
-  before_stations : length ((cycles ++ cores) ++ marks) ≡ 612
-  before_stations = length-append (cycles ++ cores) marks ∙ rw (before_marks, length-table)
+  before_stations : length ((cycles ++ cores) ++ pending) ≡ 612
+  before_stations = length-append (cycles ++ cores) pending ∙ rw (before_pending, length-table)
 
-  before_queues : length (((cycles ++ cores) ++ marks) ++ stations) ≡ 7524
+  before_queues : length (((cycles ++ cores) ++ pending) ++ stations) ≡ 7524
   before_queues =
-      length-append ((cycles ++ cores) ++ marks) stations
+      length-append ((cycles ++ cores) ++ pending) stations
       ∙ rw (before_stations, each_long station_bytes 9 station_long (λ i. get_or s.stations i no_station) 768)
 
-  at-marks : state_bytes s ≡ (cycles ++ cores) ++ (marks ++ (stations ++ queues))
+  at-pending : state_bytes s ≡ (cycles ++ cores) ++ (pending ++ (stations ++ queues))
   unfolding state_bytes
-  at-marks = sym (append_assoc cycles cores (marks ++ (stations ++ queues)))
+  at-pending = sym (append_assoc cycles cores (pending ++ (stations ++ queues)))
 
-  at-stations : state_bytes s ≡ ((cycles ++ cores) ++ marks) ++ (stations ++ queues)
-  at-stations = at-marks ∙ sym (append_assoc (cycles ++ cores) marks (stations ++ queues))
+  at-stations : state_bytes s ≡ ((cycles ++ cores) ++ pending) ++ (stations ++ queues)
+  at-stations = at-pending ∙ sym (append_assoc (cycles ++ cores) pending (stations ++ queues))
 
-  at-queues : state_bytes s ≡ (((cycles ++ cores) ++ marks) ++ stations) ++ (queues ++ [])
-  at-queues = at-stations ∙ sym (append_assoc ((cycles ++ cores) ++ marks) stations queues) ∙ rw append-nil
+  at-queues : state_bytes s ≡ (((cycles ++ cores) ++ pending) ++ stations) ++ (queues ++ [])
+  at-queues = at-stations ∙ sym (append_assoc ((cycles ++ cores) ++ pending) stations queues) ∙ rw append-nil
 
-  marks_back : table (λ c. get_or (state_bytes s) (516 + c) 0) 96 ≡ s.pending
-  unfolding mark_at
-  marks_back =
-      table_same (λ c. get_or (state_bytes s) (516 + c) 0) (mark_at s) 96
+  pending_back : table (λ c. get_or (state_bytes s) (516 + c) 0) 96 ≡ s.pending
+  unfolding pending_at
+  pending_back =
+      table_same (λ c. get_or (state_bytes s) (516 + c) 0) (pending_at s) 96
       (λ c h.
-      rw (at-marks, ← before_marks)
-      (get_or-append-add (cycles ++ cores) (marks ++ (stations ++ queues)) c 0
-      ∙ get_or-append marks (stations ++ queues) 0 c (rw length-table h) ∙ table_at (mark_at s) 96 c 0 h))
+      rw (at-pending, ← before_pending)
+      (get_or-append-add (cycles ++ cores) (pending ++ (stations ++ queues)) c 0
+      ∙ get_or-append pending (stations ++ queues) 0 c (rw length-table h) ∙ table_at (pending_at s) 96 c 0 h))
       ∙ own s.pending 0 96 typed.shaped.pending
 
   stations_back : table (λ i. station_in (state_bytes s) (612 + 9 * i)) 768 ≡ s.stations
@@ -226,7 +226,7 @@ module _ (s : State) (typed : Typed s) where
       (λ i h.
       rw at-stations
       (each_back station_bytes station_in 9 station_long station-behind (λ x. GoodTokens 2 x.tokens) station_front
-      (λ i. get_or s.stations i no_station) 768 i ((cycles ++ cores) ++ marks) queues 612 h (typed.shaped.station i h, typed.held i h)
+      (λ i. get_or s.stations i no_station) 768 i ((cycles ++ cores) ++ pending) queues 612 h (typed.shaped.station i h, typed.held i h)
       before_stations))
       ∙ own s.stations no_station 768 typed.shaped.stations
 
@@ -237,9 +237,9 @@ module _ (s : State) (typed : Typed s) where
       (λ c h.
       rw at-queues
       (each_back queue_bytes queue_in 33 queue_long queue_behind (λ x. GoodTokens 8 x.tokens) queue_front (queue_at s) 96 c
-      (((cycles ++ cores) ++ marks) ++ stations) [] 7524 h (typed.shaped.queue c h, typed.queued c h) before_queues))
+      (((cycles ++ cores) ++ pending) ++ stations) [] 7524 h (typed.shaped.queue c h, typed.queued c h) before_queues))
       ∙ own s.queues no_queue 96 typed.shaped.queues
 
   pub places_back : places_in (state_bytes s) ≡ s
   unfolding places_in
-  places_back = rw (cycles_back, nodes_back, marks_back, stations_back, queues_back)
+  places_back = rw (cycles_back, nodes_back, pending_back, stations_back, queues_back)

@@ -11,13 +11,13 @@ use Rattle.relay.specs.RowCycle.{no_station}
 use Rattle.shell.specs.declared.Queue.{Queue}
 use Rattle.state.specs.declared.Node.{Node}
 use Rattle.state.specs.declared.State.{State}
-use Rattle.state.specs.State.{node_at, mark_at, queue_at}
+use Rattle.state.specs.State.{node_at, pending_at, queue_at}
 use Rattle.state.specs.Fresh.{zeros}
 
 -- ---- written
 -- a number of 32 bits
-unfoldable pub word_bytes : ℕ → List ℕ
-word_bytes n = n % 2 ^ 8 ∷ n / 2 ^ 8 % 2 ^ 8 ∷ n / 2 ^ 16 % 2 ^ 8 ∷ n / 2 ^ 24 % 2 ^ 8 ∷ []
+unfoldable pub number_bytes : ℕ → List ℕ
+number_bytes n = n % 2 ^ 8 ∷ n / 2 ^ 8 % 2 ^ 8 ∷ n / 2 ^ 16 % 2 ^ 8 ∷ n / 2 ^ 24 % 2 ^ 8 ∷ []
 
 -- the number of the same 32 bits as a signed one
 unfoldable pub bits_of : ℤ → ℕ
@@ -25,11 +25,11 @@ bits_of (pos n) = n
 bits_of (negsuc n) = 2 ^ 32 - suc n
 
 unfoldable pub token_bytes : ℤ → List ℕ
-token_bytes value = word_bytes (bits_of value)
+token_bytes value = number_bytes (bits_of value)
 
 -- a node: its value, its firings
 unfoldable pub node_bytes : Node → List ℕ
-node_bytes n = token_bytes n.value ++ word_bytes n.firings
+node_bytes n = token_bytes n.value ++ number_bytes n.firings
 
 -- the bytes of g 0, g 1, .., g (n - 1), one after another
 abbrev pub each : {A : Type 0} → (A → List ℕ) → (ℕ → A) → ℕ → List ℕ
@@ -45,9 +45,9 @@ queue_bytes q = each token_bytes (λ i. get_or q.tokens i (pos 0)) 8 ++ (q.count
 -- a state: the cycle count, the nodes, the pending marks, the stations, the queues
 unfoldable pub state_bytes : State → List ℕ
 state_bytes s =
-    word_bytes s.cycles ++ (
+    number_bytes s.cycles ++ (
     each node_bytes (node_at s) 64 ++ (
-    table (mark_at s) 96 ++ (
+    table (pending_at s) 96 ++ (
     each station_bytes (λ i. get_or s.stations i no_station) 768 ++
     each queue_bytes (queue_at s) 96)))
 

@@ -5,7 +5,7 @@ ghost use Rattle.std.specs.Prelude.{◌≡◌};
 ghost use Rattle.refusal.specs.Number.{number_of};
 ghost use Rattle.verdict.specs.Judge.{judge};
 
-use image::{Channel, Core};
+use image::{Core, Wire};
 use refusal::Refusal;
 
 // An accepted image.
@@ -18,7 +18,7 @@ pub struct Netlist<'a> {
 impl<'a> Netlist<'a> {
     ghost use Rattle.std.specs.Prelude.{◌≤◌, ◌<◌, IfOk};
     ghost use Rattle.image.specs.Image.{nodes, channels};
-    ghost use Rattle.image.specs.Readers.{core_at, channel_at, Placed};
+    ghost use Rattle.image.specs.Readers.{core_at, wire_at, Placed};
 
     // An image, if the judge accepts it.
     pub fn judged(image: &'a [u8]) -> Result<Netlist<'a>, Refusal>
@@ -30,7 +30,7 @@ impl<'a> Netlist<'a> {
     }
 
     // N.
-    #[tactic(auto, using(verdict::specs::AcceptedLaws::nodes_few))]
+    #[tactic(auto, using(verdict::specs::Laws::Accepted::nodes_few))]
     pub fn nodes(self) -> u8
         ensures value { result ≡ nodes self.entry.image.now }
         ensures few { result ≤ 64 }
@@ -39,7 +39,7 @@ impl<'a> Netlist<'a> {
     }
 
     // C.
-    #[tactic(auto, using(verdict::specs::AcceptedLaws::channels_few))]
+    #[tactic(auto, using(verdict::specs::Laws::Accepted::channels_few))]
     pub fn channels(self) -> u8
         ensures value { result ≡ channels self.entry.image.now }
         ensures few { result ≤ 96 }
@@ -55,11 +55,11 @@ impl<'a> Netlist<'a> {
     }
 
     // Channel c's fields.
-    #[tactic(auto, using(verdict::specs::AcceptedLaws::channel_placed))]
-    pub fn channel(self, c: u8) -> Channel
-        ensures value { result ≡ channel_at self.entry.image.now c }
+    #[tactic(auto, using(verdict::specs::Laws::Accepted::wire_placed))]
+    pub fn wire(self, c: u8) -> Wire
+        ensures value { result ≡ wire_at self.entry.image.now c }
         ensures placed { c < channels self.entry.image.now → Placed result }
     {
-        image::channel_at(self.image, c)
+        image::wire_at(self.image, c)
     }
 }

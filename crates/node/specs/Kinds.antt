@@ -3,10 +3,10 @@ use Rattle.std.specs.Prelude.{List, ◌≡◌, ℕ, ◌<◌, ◌≤◌, get_or, 
 use Rattle.image.specs.Image.{kind}
 use Rattle.pearl.specs.declared.Kind.{Kind}
 use Rattle.pearl.specs.declared.Kind.TheVariants.{Count}
-use Rattle.pearl.specs.Kind.{code}
+use Rattle.pearl.specs.Kind.{kind_byte}
 
 -- the kinds of the nodes below n; the other places hold the first kind
 pub record KindsBelow (img : List ℕ) (n : ℕ) (kinds : List Kind) : Type 0 where
   pub long : length kinds ≡ 64
-  pub each : (k : ℕ) → k < n → code (get_or kinds k Count) ≡ kind img k
+  pub each : (k : ℕ) → k < n → kind_byte (get_or kinds k Count) ≡ kind img k
   pub others : (k : ℕ) → n ≤ k → get_or kinds k Count ≡ Count

@@ -1,5 +1,4 @@
 -- A node in its netlist. A file NAME defines, and NAMELaws proves what others use instead of the definition's text.
 pub mod Kinds
-pub mod KindsLaws
 pub mod Node
-pub mod NodeLaws
+pub mod Laws

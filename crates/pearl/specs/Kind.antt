@@ -7,17 +7,17 @@ use Rattle.pearl.specs.declared.Kind.{Kind}
 use Rattle.pearl.specs.declared.Kind.TheVariants.{Count, Hold, Total, Negate, Halve, Sum, Difference, Larger, Choose}
 
 -- the byte that stands for a kind in an image
-abbrev pub code : Kind → ℕ
-code Count = 1
-code Hold = 2
-code Total = 3
-code Negate = 4
-code Halve = 5
-code Sum = 6
-code Difference = 7
-code Larger = 8
-code Choose = 9
+abbrev pub kind_byte : Kind → ℕ
+kind_byte Count = 1
+kind_byte Hold = 2
+kind_byte Total = 3
+kind_byte Negate = 4
+kind_byte Halve = 5
+kind_byte Sum = 6
+kind_byte Difference = 7
+kind_byte Larger = 8
+kind_byte Choose = 9
 
 -- a number gives the kind that has it, and one that no kind has is refused
 abbrev pub Decodes : ℕ → Result Kind Refusal → Type 0
-Decodes number r = MatchResult r (λ kind. code kind ≡ number) (λ refusal. (refusal ≡ NoKind) × (outside 1 9 number ≡ true))
+Decodes number r = MatchResult r (λ kind. kind_byte kind ≡ number) (λ refusal. (refusal ≡ NoKind) × (outside 1 9 number ≡ true))

@@ -53,12 +53,12 @@ impl TryFrom<u8> for Kind {
 }
 
 impl Kind {
-    ghost use Rattle.pearl.specs.Kind.{code};
+    ghost use Rattle.pearl.specs.Kind.{kind_byte};
 
     // The next value. A port that the kind does not have is not looked at. The ports are named, as above, and
     // no array.
     pub fn next(self, s: i32, a: i32, b: i32, c: i32) -> i32
-        ensures { result ≡ next_value (code self) s a b c }
+        ensures { result ≡ next_value (kind_byte self) s a b c }
     {
         match self {
             Kind::Count => s.wrapping_add(1),

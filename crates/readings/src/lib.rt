@@ -5,7 +5,7 @@ ghost use Rattle.std.specs.Prelude.{◌≡◌, ◌≤◌, length};
 ghost use Rattle.laws.specs.Table.{table_over};
 ghost use Rattle.image.specs.Image.{channels};
 ghost use Rattle.fitting.specs.Fitting.{Fitting};
-ghost use Rattle.cycle.specs.Cycle.{seen_at};
+ghost use Rattle.cycle.specs.Cycle.{reading_at};
 
 use netlist::Netlist;
 use relay::Reading;
@@ -16,15 +16,15 @@ use state::State;
 pub fn show(netlist: Netlist, state: State, letters: &mut [u8], values: &mut [i32])
     requires fitting { Fitting netlist.image.now state }
     requires image_in_bounds { (channels netlist.image.now ≤ length letters.old) × (channels netlist.image.now ≤ length values.old) }
-    ensures letters_after { letters.new ≡ table_over (λ c. (seen_at netlist.entry.image.now state c).letter) (channels netlist.entry.image.now) letters.old }
-    ensures values_after { values.new ≡ table_over (λ c. (seen_at netlist.entry.image.now state c).value) (channels netlist.entry.image.now) values.old }
+    ensures letters_after { letters.new ≡ table_over (λ c. (reading_at netlist.entry.image.now state c).letter) (channels netlist.entry.image.now) letters.old }
+    ensures values_after { values.new ≡ table_over (λ c. (reading_at netlist.entry.image.now state c).value) (channels netlist.entry.image.now) values.old }
 {
     let channels = netlist.channels();
     for c in 0..channels {
-        let channel = netlist.channel(c);
+        let wire = netlist.wire(c);
         let at = c as usize;
-        let length = channel.stations as usize;
-        let node = state.nodes[channel.from as usize];
+        let length = wire.stations as usize;
+        let node = state.nodes[wire.from as usize];
         let queue = state.queues[at];
         let pending = state.pending[at] == 1;
         let link = if 0 < length {
@@ -32,8 +32,8 @@ pub fn show(netlist: Netlist, state: State, letters: &mut [u8], values: &mut [i3
         } else {
             pending.then_some(node.value)
         };
-        let seen = Reading::of(link, queue.full(channel.depth));
-        letters[at] = seen.letter;
-        values[at] = seen.value;
+        let reading = Reading::of(link, queue.full(wire.depth));
+        letters[at] = reading.letter;
+        values[at] = reading.value;
     }
 }

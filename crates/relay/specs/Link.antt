@@ -1,6 +1,7 @@
 -- A link between two places of a channel shows a token, or none while it is void. As a list it is that token alone, or empty.
 use Rattle.std.specs.Prelude.{Bool, Option, None, Some, is_some, unwrap_or, List, [], ◌∷◌, ℕ, ℤ, pos}
 use Rattle.std.specs.Option.{option_to_list}
+use Prim.Native.Char.{code}
 use Rattle.laws.specs.Choice.{◌if◌else◌}
 use Rattle.relay.specs.declared.Reading.{Reading}
 
@@ -24,9 +25,9 @@ passing link stop = [] if stop else link
 abbrev pub staying : List ℤ → Bool → List ℤ
 staying link stop = link if stop else []
 
--- "T passed, R valid and stopped, I void, S void and stopped", as ASCII capitals
+-- "T passed, R valid and stopped, I void, S void and stopped"
 unfoldable pub letter : Bool → Bool → ℕ
-letter valid stop = (82 if stop else 84) if valid else (83 if stop else 73)
+letter valid stop = (code "R" if stop else code "T") if valid else (code "S" if stop else code "I")
 
 -- "T and R carry the shown value; I and S carry 0"
 unfoldable pub reading : Link → Bool → Reading

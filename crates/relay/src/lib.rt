@@ -98,7 +98,7 @@ impl Station {
     }
 
     // The link that leaves it.
-    #[tactic(auto, using(crate::specs::StationLaws::held_none, crate::specs::StationLaws::link_held))]
+    #[tactic(auto, using(crate::specs::Laws::Station::held_none, crate::specs::Laws::Station::link_held))]
     pub fn link(self) -> Link
         ensures { result ≡ link_of (held self) }
     {
@@ -109,7 +109,7 @@ impl Station {
     }
 
     // Whether it holds two tokens, which stops the link that enters it.
-    #[tactic(auto, using(crate::specs::StationLaws::full_held))]
+    #[tactic(auto, using(crate::specs::Laws::Station::full_held))]
     pub fn full(self) -> bool
         ensures { result ≡ holds_two (held self) }
     {
@@ -117,7 +117,7 @@ impl Station {
     }
 
     // Whether every place that holds no token is 0. Two places, two tests: a loop is no plainer.
-    #[tactic(auto, using(laws::specs::SignedLaws::zero_bits), unfolding(laws::specs::Lists::zero_from, laws::specs::Below::all_below))]
+    #[tactic(auto, using(laws::specs::Laws::Signed::zero_bits), unfolding(laws::specs::Lists::zero_from, laws::specs::Below::all_below))]
     pub fn clear(self) -> bool
         ensures { result ≡ clear self }
     {
@@ -128,7 +128,7 @@ impl Station {
 
     // It after a cycle, from the link that enters it and the stop on the one that leaves it. A count
     // over two is read as two, and a token that is not held is not looked at.
-    #[tactic(auto, using(crate::specs::StationLaws::after_kept, crate::specs::StationLaws::held_two, crate::specs::StationLaws::after_clear), unfolding(crate::specs::Station::place_after))]
+    #[tactic(auto, using(crate::specs::Laws::Station::after_kept, crate::specs::Laws::Station::held_two, crate::specs::Laws::Station::after_clear), unfolding(crate::specs::Station::place_after))]
     pub fn after(self, link: Link, stop: bool) -> Self
         ensures { result ≡ station_of (place_after (token link) (held self) stop) }
     {
@@ -165,7 +165,7 @@ impl Row {
     pub const LENGTH: u8 = 8;
 
     // What link j shows: link 0 as given, link j above 0 by the station before it.
-    #[tactic(auto, using(crate::specs::LinkLaws::link_own, crate::specs::RowCycleLaws::link_above), unfolding(crate::specs::Row::link_at))]
+    #[tactic(auto, using(crate::specs::Laws::Link::link_own, crate::specs::Laws::RowCycle::link_above), unfolding(crate::specs::Row::link_at))]
     fn link_at(&self, link: Link, j: usize) -> Link
         requires { j ≤ 8 }
         ensures { result ≡ link_of (link_at (token link) (places self.now 8) j) }

@@ -43,8 +43,8 @@ module _ (depth : ℕ) (ch : Channel) where
   stop_above = stopped ch.row stop_below
 
   -- the channel's letter and value
-  unfoldable pub seen : Reading
-  seen = reading (link_of (arriving ch)) stop_below
+  unfoldable pub channel_reading : Reading
+  channel_reading = reading (link_of (arriving ch)) stop_below
 
   -- the channel after the cycle: whether its to node fires, whether its from node fires, and the value that the from node then shows
   unfoldable pub channel_after : Bool → Bool → ℤ → Channel

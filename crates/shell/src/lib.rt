@@ -41,7 +41,7 @@ impl Queue {
 
     // What its node has to take, from the link that arrives: the oldest token here, or with an empty
     // queue the one on the link.
-    #[tactic(auto, using(relay::specs::LinkLaws::link_own, crate::specs::QueueLaws::link_waiting), unfolding(crate::specs::Queue::waiting))]
+    #[tactic(auto, using(relay::specs::Laws::Link::link_own, crate::specs::Laws::Queue::link_waiting), unfolding(crate::specs::Queue::waiting))]
     pub fn input(self, link: Link) -> Link
         ensures { result ≡ link_of (waiting self ++ token link) }
     {
@@ -52,7 +52,7 @@ impl Queue {
     }
 
     // It with the link's token behind the others, if that passes and there is a place.
-    #[tactic(auto, using(crate::specs::QueueLaws::push_flag))]
+    #[tactic(auto, using(crate::specs::Laws::Queue::push_flag))]
     fn pushed(self, link: Link, stop: bool) -> Self
         ensures { result ≡ pushed self (passing (token link) stop) }
     {

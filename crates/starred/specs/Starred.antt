@@ -1,4 +1,5 @@
 -- "The starred edges are one proved table, settled by one claim on the definitions."
+use Prim.Native.Char.{code}
 use Rattle.std.specs.Prelude.{Some, true, false, List, [], ◌∷◌, map, ◌≡◌, refl, ℕ, ℤ, pos, replicate}
 use Rattle.laws.specs.Below.{all_below, any_below, pick_below}
 use Rattle.laws.specs.Signed.{signed}
@@ -15,7 +16,7 @@ use Rattle.relay.specs.Station.{held, station_of, place_after}
 use Rattle.relay.specs.Row.{stopped, leaving, row_after}
 use Rattle.relay.specs.RowCycle.{places, row_cycle}
 use Rattle.shell.specs.Queue.{waiting, queue_of, full, pushed, popped, queue_after}
-use Rattle.shell.specs.Channel.{Channel, arriving, input, stop_below, stop_above, seen, channel_after}
+use Rattle.shell.specs.Channel.{Channel, arriving, input, stop_below, stop_above, channel_reading, channel_after}
 use Rattle.state.specs.State.{node_at, value_at, state_of}
 use Rattle.state.specs.Fresh.{fresh_state}
 use Rattle.cycle.specs.Cycle.{stalled, all_ready, any_blocked, fires, node_after, state_after, after}
@@ -43,11 +44,11 @@ pub record Starred : Type 0 where
   pub full-station : (a b v : ℤ) → relayed (a ∷ b ∷ []) v ≡ record { row = first (b ∷ []); leaving = offered a; taken = false }
   -- "an empty station, no stop below, token offered: shows I, takes it"
   pub empty_station : (v : ℤ) → relayed [] v ≡ record { row = first (v ∷ []); leaving = link_of []; taken = true }
-  pub shows_i : reading (link_of []) false ≡ record { letter = 73; value = pos 0 }
+  pub shows_i : reading (link_of []) false ≡ record { letter = code "I"; value = pos 0 }
   -- "an empty queue of depth 1 whose node fires on arrival stays empty": v arrives and is the node's input; the rule and the record
   pub empty_queue :
       (v : ℤ) → let ch : Channel = record { source = v ∷ []; row = []; queue = [] } in
-      (seen 1 ch ≡ record { letter = 84; value = v }) × (input ch ≡ offered v) × ((channel_after 1 ch true false v).queue ≡ []) ×
+      (channel_reading 1 ch ≡ record { letter = code "T"; value = v }) × (input ch ≡ offered v) × ((channel_after 1 ch true false v).queue ≡ []) ×
       (queue_after (queue_of []) (v ∷ []) true ≡ queue_of [])
   -- "one count node, parameter 5, three free cycles: value 8"
   pub count_node : value_at (after counting (fresh_state counting) (0 ∷ 0 ∷ 0 ∷ [])) 0 ≡ pos 8
@@ -56,7 +57,7 @@ pub starred : Starred
 unfolding all_below any_below pick_below signed padded table nodes channels kind parameter
     wrap halve larger choose exact next_value
     letter reading held station_of place_after stopped leaving row_after places row_cycle
-    waiting queue_of full pushed popped queue_after arriving input stop_below stop_above seen channel_after
+    waiting queue_of full pushed popped queue_after arriving input stop_below stop_above channel_reading channel_after
     port_value next_of node_at state_of fresh_state stalled all_ready any_blocked fires node_after state_after after
 starred =
     record {

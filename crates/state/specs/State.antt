@@ -31,8 +31,8 @@ abbrev pub firings_at : State → ℕ → ℕ
 firings_at s n = (node_at s n).firings
 
 -- channel c's pending mark; its station j, counted from 0; its queue
-unfoldable pub mark_at : State → ℕ → ℕ
-mark_at s c = get_or s.pending c 0
+unfoldable pub pending_at : State → ℕ → ℕ
+pending_at s c = get_or s.pending c 0
 
 unfoldable pub station_at : State → ℕ → ℕ → Station
 station_at s c j = get_or s.stations (8 * c + j) no_station
@@ -44,7 +44,7 @@ queue_at s c = get_or s.queues c no_queue
 unfoldable pub channel_in : List ℕ → State → ℕ → Channel
 channel_in img s c =
     record {
-      source = one_if (eqb (mark_at s c) 1) (value_at s (from img c));
+      source = one_if (eqb (pending_at s c) 1) (value_at s (from img c));
       row = table (λ j. held (station_at s c j)) (stations img c);
       queue = waiting (queue_at s c);
     }

@@ -5,7 +5,7 @@ ghost use Rattle.std.specs.Prelude.{◌≡◌, ◌<◌, ◌≤◌, length, IfOk,
 ghost use Rattle.refusal.specs.Number.{number_of};
 ghost use Rattle.image.specs.Image.{nodes, channels};
 ghost use Rattle.strict.specs.Answer.{strict_number, strict_written};
-ghost use Rattle.strict.specs.Decoded.{NamesPlaces, feeders_below, port_on, values_at};
+ghost use Rattle.strict.specs.Loops.Decoded.{NamesPlaces, feeders_below, port_on, values_at};
 
 use netlist::Netlist;
 use pearl::Kind;
@@ -30,7 +30,7 @@ struct System {
 }
 
 impl System {
-    ghost use Rattle.strict.specs.System.{DecodedFrom, value_after, values_after};
+    ghost use Rattle.strict.specs.Loops.System.{DecodedFrom, value_after, values_after};
 
     // The system of an image.
     fn of(netlist: Netlist) -> System
@@ -44,7 +44,7 @@ impl System {
     }
 
     // The value on the port at a place.
-    #[tactic(auto, unfolding(crate::specs::Decoded::port_on))]
+    #[tactic(auto, unfolding(crate::specs::Loops::Decoded::port_on))]
     fn brought(&self, values: &[i32; 65], at: usize) -> i32
         requires { at < 192 }
         ensures { result ≡ port_on values.now self.now.feeders at }
@@ -54,7 +54,7 @@ impl System {
 
     // The next value of node n. A node's number is below 64 by what a netlist promises; here the arrays' places
     // ask for it.
-    #[tactic(auto, unfolding(crate::specs::System::value_after))]
+    #[tactic(auto, unfolding(crate::specs::Loops::System::value_after))]
     fn next(&self, values: &[i32; 65], n: usize) -> i32
         requires { n < 64 }
         ensures { result ≡ value_after self.now values.now n }
@@ -66,7 +66,7 @@ impl System {
     }
 
     // The values after a cycle. By number, as `next` asks for a node.
-    #[tactic(auto, using(laws::specs::TableLaws::over_next), unfolding(crate::specs::System::values_after, laws::specs::Table::table_over, laws::specs::Table::table))]
+    #[tactic(auto, using(laws::specs::Laws::Table::over_next), unfolding(crate::specs::Loops::System::values_after, laws::specs::Table::table_over, laws::specs::Table::table))]
     fn after(&self, values: &[i32; 65]) -> [i32; 65]
         ensures { result ≡ values_after self.now values.now }
     {
@@ -79,20 +79,20 @@ impl System {
 }
 
 // The node that feeds each port, written at the place that each channel names.
-#[tactic(auto, unfolding(crate::specs::Decoded::feeders_below, image::specs::Ports::ports_below, image::specs::Readers::channel_at))]
+#[tactic(auto, unfolding(crate::specs::Loops::Decoded::feeders_below, image::specs::Loops::Ports::ports_below, image::specs::Readers::wire_at))]
 fn feeders_of(netlist: Netlist) -> [u8; 192]
     ensures { result ≡ feeders_below netlist.entry.image.now (channels netlist.entry.image.now) }
 {
     let mut feeders = [64; 192];
     for c in 0..netlist.channels() {
-        let channel = netlist.channel(c);
-        feeders[3 * usize::from(channel.to) + usize::from(channel.port)] = channel.from;
+        let wire = netlist.wire(c);
+        feeders[3 * usize::from(wire.to) + usize::from(wire.port)] = wire.from;
     }
     feeders
 }
 
 // The values of cycle 0: all parameters. By index, since the netlist is asked for each node by its number.
-#[tactic(auto, using(laws::specs::TableLaws::padded_next), unfolding(crate::specs::Decoded::values_at, crate::specs::Strict::strict_cycle, laws::specs::Table::table, laws::specs::Lists::padded, image::specs::Readers::core_at))]
+#[tactic(auto, using(laws::specs::Laws::Table::padded_next), unfolding(crate::specs::Loops::Decoded::values_at, crate::specs::Strict::strict_cycle, laws::specs::Table::table, laws::specs::Lists::padded, image::specs::Readers::core_at))]
 fn first(netlist: Netlist) -> [i32; 65]
     ensures { result ≡ values_at netlist.entry.image.now 0 }
 {
@@ -104,7 +104,7 @@ fn first(netlist: Netlist) -> [i32; 65]
 }
 
 // The values of a cycle.
-#[tactic(auto, using(verdict::specs::AcceptedLaws::accepted, crate::specs::DecodedLaws::values_next))]
+#[tactic(auto, using(verdict::specs::Laws::Accepted::accepted, crate::specs::Loops::DecodedLaws::values_next))]
 fn reached(netlist: Netlist, cycle: u32) -> [i32; 65]
     ensures { result ≡ values_at netlist.entry.image.now cycle }
 {
@@ -137,7 +137,7 @@ fn allowed<'a>(image: &'a [u8], cycle: u32, room: usize) -> Result<Netlist<'a>, 
 // The values of all N nodes in a cycle, written to the first N places of `values`. A refused run
 // writes nothing: one on an image that the judge refuses, of a cycle over 1,000,000, or with fewer
 // than N places. The three parameters are what C hands over.
-#[tactic(auto, using(crate::specs::AnswerLaws::written_none, refusal::specs::NumberLaws::number_positive))]
+#[tactic(auto, using(crate::specs::Laws::Answer::written_none, refusal::specs::Laws::Number::number_positive))]
 pub fn strict(image: &[u8], cycle: u32, values: &mut [i32]) -> Result<(), Refusal>
     ensures value { number_of result ≡ strict_number image.now cycle (length values.old) }
     ensures values_after { values.new ≡ strict_written image.now cycle values.old }

@@ -37,7 +37,7 @@ struct Case {
     short: bool,
     cycles: u32,
     fired: u32,
-    mark: u8,
+    pending: u8,
     held: bool,
     queued: Option<u8>,
     call: Call,
@@ -48,7 +48,7 @@ const FRESH: Case = Case {
     short: false,
     cycles: 0,
     fired: 0,
-    mark: 1,
+    pending: 1,
     held: false,
     queued: None,
     call: Call::Step(0, 6, 6),
@@ -104,14 +104,14 @@ const CASES: &[Case] = &[
     Case {
         label: "cycle 1,000,000, no mark, word 32",
         cycles: LAST,
-        mark: 0,
+        pending: 0,
         call: Call::Step(32, 6, 6),
         ..FRESH
     },
     Case {
         label: "a byte short, no mark",
         short: true,
-        mark: 0,
+        pending: 0,
         ..FRESH
     },
     Case {
@@ -126,7 +126,7 @@ const CASES: &[Case] = &[
     },
     Case {
         label: "mark 2",
-        mark: 2,
+        pending: 2,
         ..FRESH
     },
     Case {
@@ -146,7 +146,7 @@ const CASES: &[Case] = &[
     },
     Case {
         label: "no mark",
-        mark: 0,
+        pending: 0,
         ..FRESH
     },
     Case {
@@ -168,14 +168,14 @@ const CASES: &[Case] = &[
     },
     Case {
         label: "no words, no mark",
-        mark: 0,
+        pending: 0,
         call: Call::Run(&[]),
         ..FRESH
     },
     Case {
         label: "no words, a byte short, no mark",
         short: true,
-        mark: 0,
+        pending: 0,
         call: Call::Run(&[]),
         ..FRESH
     },
@@ -315,7 +315,7 @@ fn show_case(rt: &impl Print, whole: &[u8], case: &Case) -> io::Result<()> {
     let mut state = fresh(whole);
     state.cycles = case.cycles;
     state.nodes[0].firings = case.fired;
-    state.pending[0] = case.mark;
+    state.pending[0] = case.pending;
     if case.held {
         state.stations[0].tokens[0] = 7;
         state.stations[0].count = 1;

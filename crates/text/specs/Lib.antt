@@ -3,6 +3,4 @@ pub mod Ascii
 pub mod Decimal
 pub mod Lines
 pub mod Trace
--- The laws behind all these.
-pub mod DecimalLaws
-pub mod LinesLaws
+pub mod Laws

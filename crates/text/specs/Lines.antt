@@ -11,28 +11,28 @@ use Rattle.text.specs.Decimal.{decimal, signed_text}
 unfoldable pub shows_value : ℕ → Bool
 shows_value letter = eqb letter (code "T") || eqb letter (code "R")
 
-unfoldable pub state_text : Reading → List ℕ
-state_text x = code " " ∷ x.letter ∷ (signed_text x.value if shows_value x.letter else [])
+unfoldable pub reading_text : Reading → List ℕ
+reading_text x = code " " ∷ x.letter ∷ (signed_text x.value if shows_value x.letter else [])
 
 -- a cycle's line: "its number and each channel's letter"
 unfoldable pub line_text : ℕ → List Reading → List ℕ
-line_text cycle row = decimal cycle ++ (flat_map state_text row ++ ascii "\n")
+line_text cycle readings = decimal cycle ++ (flat_map reading_text readings ++ ascii "\n")
 
 -- a line of a word and numbers
 unfoldable pub count_text : ℕ → List ℕ
 count_text n = code " " ∷ decimal n
 
-unfoldable pub word_text : List ℕ → List ℕ → List ℕ
-word_text word counts = word ++ (flat_map count_text counts ++ ascii "\n")
+unfoldable pub labelled_text : List ℕ → List ℕ → List ℕ
+labelled_text label counts = label ++ (flat_map count_text counts ++ ascii "\n")
 
 -- the closing line: "then `fired` and each node's firings"
 unfoldable pub closing_text : List ℕ → List ℕ
-closing_text firings = word_text (ascii "fired") firings
+closing_text firings = labelled_text (ascii "fired") firings
 
 -- "the line `refused` and the number"
 unfoldable pub refused_text : ℕ → List ℕ
-refused_text number = word_text (ascii "refused") (number ∷ [])
+refused_text number = labelled_text (ascii "refused") (number ∷ [])
 
 -- channel c's state, of letters and values in two arrays
-unfoldable pub state_at : List ℕ → List ℤ → ℕ → Reading
-state_at letters values c = record { letter = get_or letters c 0; value = get_or values c (pos 0) }
+unfoldable pub reading_in : List ℕ → List ℤ → ℕ → Reading
+reading_in letters values c = record { letter = get_or letters c 0; value = get_or values c (pos 0) }

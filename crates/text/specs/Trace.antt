@@ -10,8 +10,8 @@ header = ascii "cycle states\n"
 -- a line for each row, the first one's cycle being given
 unfoldable pub lines_text : ℕ → List (List Reading) → List ℕ
 lines_text cycle [] = []
-lines_text cycle (row ∷ rows) = line_text cycle row ++ lines_text (suc cycle) rows
+lines_text cycle (readings ∷ cycles) = line_text cycle readings ++ lines_text (suc cycle) cycles
 
 -- the trace of these rows, one a cycle from 0 on, and these firings
 unfoldable pub trace_text : List (List Reading) → List ℕ → List ℕ
-trace_text rows firings = header ++ (lines_text 0 rows ++ closing_text firings)
+trace_text cycles firings = header ++ (lines_text 0 cycles ++ closing_text firings)

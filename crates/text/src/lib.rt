@@ -11,10 +11,10 @@ ghost use Rattle.std.specs.Prelude.{◌≡◌, ℕ, ◌+◌, ◌*◌, ◌-◌, �
 ghost use Rattle.refusal.specs.Number.{number_of};
 ghost use Rattle.text.specs.Ascii.{ascii};
 ghost use Rattle.text.specs.Decimal.{decimal, signed_text};
-ghost use Rattle.text.specs.Lines.{shows_value, state_text, line_text, count_text, word_text, closing_text, refused_text};
+ghost use Rattle.text.specs.Lines.{shows_value, reading_text, line_text, count_text, labelled_text, closing_text, refused_text};
 ghost use Rattle.text.specs.Trace.{header};
 ghost use Rattle.writer.specs.Write.{WriteDone};
-ghost use Rattle.writer.specs.Put.{Put};
+ghost use Rattle.writer.specs.Loops.Put.{Put};
 
 use refusal::Refusal;
 use relay::Reading;
@@ -40,7 +40,7 @@ fn room_after<F: Measured<T>, T: Copy>(room: usize, items: &[T]) -> usize
     left
 }
 
-#[tactic(auto, using(crate::specs::DecimalLaws::digits_decimal))]
+#[tactic(auto, using(crate::specs::Laws::Decimal::digits_decimal))]
 fn put_decimal(n: u64, out: &mut [u8], at: usize) -> usize
     requires { at + length (decimal n) ≤ length out.old }
     ensures { Put (decimal n) at out.old out.new result }
@@ -59,7 +59,7 @@ fn digits(n: u64) -> usize
 
 // A value with its sign: `io::decimal` is for numbers from 0 on, and the library's writers of signed numbers
 // speak of another definition of decimals.
-#[tactic(auto, using(writer::specs::PutLaws::put_steps, crate::specs::DecimalLaws::signed_minus, crate::specs::DecimalLaws::signed_plain))]
+#[tactic(auto, using(writer::specs::Loops::PutLaws::put_steps, crate::specs::Laws::Decimal::signed_minus, crate::specs::Laws::Decimal::signed_plain))]
 fn put_signed(value: i32, out: &mut [u8], at: usize) -> usize
     requires { at + length (signed_text value) ≤ length out.old }
     ensures { Put (signed_text value) at out.old out.new result }
@@ -92,9 +92,9 @@ fn shows_value(letter: u8) -> bool
 struct States;
 
 impl Text<Reading> for States {
-    ghost text = { state_text };
+    ghost text = { reading_text };
 
-    #[tactic(auto, using(writer::specs::PutLaws::put_steps), unfolding(crate::specs::Lines::state_text))]
+    #[tactic(auto, using(writer::specs::Loops::PutLaws::put_steps), unfolding(crate::specs::Lines::reading_text))]
     fn put(item: Reading, out: &mut [u8], at: usize) -> usize {
         out[at] = b' ';
         out[at + 1] = item.letter;
@@ -108,7 +108,7 @@ impl Text<Reading> for States {
 impl Measured<Reading> for States {
     ghost longest = { 13 };
 
-    #[tactic(auto, unfolding(crate::specs::Lines::state_text))]
+    #[tactic(auto, unfolding(crate::specs::Lines::reading_text))]
     fn size(item: Reading) -> usize {
         if shows_value(item.letter) {
             return 2 + signed_length(item.value);
@@ -123,7 +123,7 @@ struct Counts;
 impl Text<u32> for Counts {
     ghost text = { count_text };
 
-    #[tactic(auto, using(writer::specs::PutLaws::put_steps), unfolding(crate::specs::Lines::count_text))]
+    #[tactic(auto, using(writer::specs::Loops::PutLaws::put_steps), unfolding(crate::specs::Lines::count_text))]
     fn put(item: u32, out: &mut [u8], at: usize) -> usize {
         out[at] = b' ';
         put_decimal(item as u64, out, at + 1)
@@ -170,17 +170,17 @@ fn line<F: Measured<T>, T: Copy>(
 
 // The line of a cycle: its number, and each channel's letter with its value for T and R. A slice of 11
 // bytes and 13 for each channel is always enough.
-pub fn cycle_line(cycle: u32, row: &[Reading], out: &mut [u8]) -> Result<usize, Refusal>
-    ensures write_done { WriteDone (line_text cycle row.now) out.old result out.new }
-    ensures number_value { 11 + 13 * length row.now ≤ length out.old → number_of result ≡ 0 }
+pub fn cycle_line(cycle: u32, readings: &[Reading], out: &mut [u8]) -> Result<usize, Refusal>
+    ensures write_done { WriteDone (line_text cycle readings.now) out.old result out.new }
+    ensures number_value { 11 + 13 * length readings.now ≤ length out.old → number_of result ≡ 0 }
 {
     let mut number = [0u8; 20];
     let count = io::decimal(cycle as u64, &mut number);
-    line::<States, Reading>(&number[..count], row, out)
+    line::<States, Reading>(&number[..count], readings, out)
 }
 
 // The closing line, of each node's firings. A slice of 6 bytes and 11 for each node is always enough.
-#[tactic(auto, unfolding(crate::specs::Lines::closing_text, crate::specs::Lines::word_text, crate::specs::Ascii::ascii))]
+#[tactic(auto, unfolding(crate::specs::Lines::closing_text, crate::specs::Lines::labelled_text, crate::specs::Ascii::ascii))]
 pub fn closing_line(firings: &[u32], out: &mut [u8]) -> Result<usize, Refusal>
     ensures write_done { WriteDone (closing_text firings.now) out.old result out.new }
     ensures number_value { 6 + 11 * length firings.now ≤ length out.old → number_of result ≡ 0 }
@@ -190,7 +190,7 @@ pub fn closing_line(firings: &[u32], out: &mut [u8]) -> Result<usize, Refusal>
 
 // The line of a refusal. A slice of 19 bytes is always enough. The number is any: a `Refusal` would ask
 // more of the caller.
-#[tactic(auto, unfolding(crate::specs::Lines::refused_text, crate::specs::Lines::word_text, crate::specs::Ascii::ascii))]
+#[tactic(auto, unfolding(crate::specs::Lines::refused_text, crate::specs::Lines::labelled_text, crate::specs::Ascii::ascii))]
 pub fn refused_line(number: u8, out: &mut [u8]) -> Result<usize, Refusal>
     ensures write_done { WriteDone (refused_text number) out.old result out.new }
     ensures number_value { 19 ≤ length out.old → number_of result ≡ 0 }

@@ -4,19 +4,19 @@ use Rattle.std.proofs.Math.Bool.{true, false, not}
 use Rattle.std.proofs.Common.{⊎_elim, ◌∙◌, add-zero, add-suc, suc-add, arith, ltb-true, lt-ltb, le-ltb, eq-eqb, ne_eqb}
 use Rattle.std.proofs.Math.Path.{◌≡◌, refl, ap}
 use Rattle.std.proofs.Math.Dec.{eqb, eqb-zero-suc, eqb-suc-suc}
-use Rattle.laws.specs.Cases.{lt-or-ge}
+use Rattle.laws.specs.Laws.Cases.{lt-or-ge}
 use Rattle.laws.specs.Choice.{◌if◌else◌}
-use Rattle.laws.specs.TestsLaws.{ltb_leb}
+use Rattle.laws.specs.Laws.Tests.{ltb_leb}
 use Rattle.image.specs.Image.{nodes, channels}
 use Rattle.verdict.specs.Accepted.{Accepted}
-use Rattle.verdict.specs.AcceptedLaws.{accepts}
+use Rattle.verdict.specs.Laws.Accepted.{accepts}
 use Rattle.state.specs.declared.State.{State}
 use Rattle.state.specs.Told.{Told}
 use Rattle.cycle.specs.Cycle.{state_after, letters_of, values_of, after}
-use Rattle.cycle.specs.CycleLaws.{cycles-next}
+use Rattle.cycle.specs.Laws.Cycle.{cycles-next}
 use Rattle.fitting.specs.Fitting.{Fitting}
-use Rattle.fitting.specs.FitsLaws.{fits-fitting}
-use Rattle.engine.specs.Answer.{sets_above, step_number, step_of, step_answer, letters_written, values_written, RunTold, step_more, ran_from, run_answer}
+use Rattle.fitting.specs.Laws.Fits.{fits-fitting}
+use Rattle.engine.specs.Answer.{sets_above, step_number, number_of_step, step_answer, letters_written, values_written, RunTold, step_more, ran_from, run_answer}
 use Rattle.token_rule.specs.Calls.{Step, Run, step, run, Done, goes, roomy, makes, run_cycles}
 
 -- a count that fits is 1,000,000 where it is not below
@@ -47,8 +47,8 @@ pub record SteppedWell (img : List ℕ) (s : State) (d : ℕ) (x : Step) : Type 
 
 module _ (img : List ℕ) (a : Accepted img) (s : State) (ok : Fitting img s) (d : ℕ) (e : s.cycles ≡ d) where
   step-number :
-      (x : Step) → step_of img s x.word x.letters x.values ≡ chosen (makes img d x) (not (ltb d 1000000)) (sets_above (nodes img) x.word)
-  unfolding step_of step_number makes goes roomy
+      (x : Step) → number_of_step img s x.word x.letters x.values ≡ chosen (makes img d x) (not (ltb d 1000000)) (sets_above (nodes img) x.word)
+  unfolding number_of_step step_number makes goes roomy
   step-number x =
       rw (
         accepts img a,
@@ -70,7 +70,7 @@ module _ (img : List ℕ) (a : Accepted img) (s : State) (ok : Fitting img s) (d
   unfolding Done step_answer letters_written values_written
   step-done x done =
       let m = makes img d x in
-      let zero : eqb (step_of img s x.word x.letters x.values) 0 ≡ m =
+      let zero : eqb (number_of_step img s x.word x.letters x.values) 0 ≡ m =
       ap (λ k. eqb k 0) (step-number x) ∙ chosen_zero m (not (ltb d 1000000)) (sets_above (nodes img) x.word) in
       let number = ap (λ (r : Told). r.number) done.answered in
       record {

@@ -6,28 +6,28 @@ use Rattle.std.proofs.Common.{arith}
 use Rattle.std.proofs.Math.ListN.{length}
 use Rattle.laws.specs.Lists.{one_if}
 use Rattle.laws.specs.Stretch.{Stretch}
-use Rattle.laws.specs.StretchLaws.{stretch-append, stretch-first, stretch_second, stretch-table}
+use Rattle.laws.specs.Laws.Stretch.{stretch-append, stretch-first, stretch_second, stretch-table}
 use Rattle.laws.specs.Table.{table}
 use Rattle.image.specs.Image.{channels, to, depth}
 use Rattle.verdict.specs.Accepted.{Accepted}
 use Rattle.strict.specs.Strict.{stream}
 use Rattle.relay.specs.Link.{passing}
-use Rattle.relay.specs.LinkLaws.{letter-passing}
+use Rattle.relay.specs.Laws.Link.{letter-passing}
 use Rattle.relay.specs.Row.{leaving, contents}
-use Rattle.relay.specs.RowLaws.{leaving-first, behind}
-use Rattle.shell.specs.Channel.{Channel, tokens, arriving, stop_below, seen}
+use Rattle.relay.specs.Laws.Row.{leaving-first, behind}
+use Rattle.shell.specs.Channel.{Channel, tokens, arriving, stop_below, channel_reading}
 use Rattle.state.specs.declared.State.{State}
 use Rattle.state.specs.State.{firings_at, channel_in}
-use Rattle.state.specs.StateLaws.{arriving_few}
+use Rattle.state.specs.Laws.State.{arriving_few}
 use Rattle.state.specs.Fresh.{fresh_state}
-use Rattle.state.specs.FreshLaws.{fresh_firings, fresh-channel}
-use Rattle.cycle.specs.Cycle.{seen_at, state_after}
-use Rattle.cycle.specs.CycleLaws.{firings_next, queue_next_lem}
+use Rattle.state.specs.Laws.Fresh.{fresh_firings, fresh-channel}
+use Rattle.cycle.specs.Cycle.{reading_at, state_after}
+use Rattle.cycle.specs.Laws.Cycle.{firings_next, queue_next_lem}
 use Rattle.fitting.specs.Fitting.{Steady}
-use Rattle.fitting.specs.FittingLaws.{fitting-fresh}
-use Rattle.cycle.specs.KeptLaws.{steady-next}
+use Rattle.fitting.specs.Laws.Fitting.{fitting-fresh}
+use Rattle.cycle.specs.Laws.Kept.{steady-next}
 use Rattle.token_rule.specs.Safety.{Sound}
-use Rattle.token_rule.specs.SafetyLaws.{sound-fresh, sound-next}
+use Rattle.token_rule.specs.Laws.Safety.{sound-fresh, sound-next}
 use Rattle.token_rule.specs.Cycles.{arrivals}
 
 stretch-passing : (f : ℕ → ℤ) (a : ℕ) (link : List ℤ) (stop : Bool) → Stretch f a link → Stretch f a (passing link stop)
@@ -44,9 +44,9 @@ module _ (img : List ℕ) (s : State) (c : ℕ) where
   unfoldable arrived_so_far : ℕ
   arrived_so_far = firings_at s (to img c) + length (channel_in img s c).queue
 
-  seen_now : one_if (eqb (seen_at img s c).letter 84) (seen_at img s c).value ≡ arriving_now
-  unfolding seen_at seen arriving_now
-  seen_now = letter-passing (arriving (channel_in img s c)) (stop_below (depth img c) (channel_in img s c)) (arriving_few img s c)
+  reading_now : one_if (eqb (reading_at img s c).letter 84) (reading_at img s c).value ≡ arriving_now
+  unfolding reading_at channel_reading arriving_now
+  reading_now = letter-passing (arriving (channel_in img s c)) (stop_below (depth img c) (channel_in img s c)) (arriving_few img s c)
 
   -- they are the next of the stream
   stretch_now : Sound img s → c < channels img → Stretch (stream img c) arrived_so_far arriving_now
@@ -72,7 +72,7 @@ module _ (img : List ℕ) (a : Accepted img) (c : ℕ) (h : c < channels img) wh
   arrivals-next [] s steady ok = tt
   arrivals-next (w ∷ words) s steady ok =
       let next = state_after img w s in
-      rw (seen_now img s c)
+      rw (reading_now img s c)
       (stretch-append (stream img c) (arrived_so_far img s c) (arriving_now img s c) (arrivals img next words c) (stretch_now img s c ok h)
       (rw (← (arrived_next w s)) (arrivals-next words next (steady-next img a w s steady) (sound-next img a w s steady ok))))
 

@@ -7,11 +7,11 @@ use Rattle.verdict.specs.Accepted.{Accepted}
 use Rattle.state.specs.declared.State.{State}
 use Rattle.state.specs.State.{firings_at}
 use Rattle.cycle.specs.Cycle.{state_after, after}
-use Rattle.cycle.specs.CycleLaws.{cycles-next, firings_next}
+use Rattle.cycle.specs.Laws.Cycle.{cycles-next, firings_next}
 use Rattle.fitting.specs.Fitting.{Steady, Fitting}
-use Rattle.cycle.specs.KeptLaws.{steady-next, fitting-next}
+use Rattle.cycle.specs.Laws.Kept.{steady-next, fitting-next}
 use Rattle.token_rule.specs.Safety.{Sound}
-use Rattle.token_rule.specs.SafetyLaws.{sound-next}
+use Rattle.token_rule.specs.Laws.Safety.{sound-next}
 use Rattle.token_rule.specs.Cycles.{fired_in}
 
 pub after-append : (img : List ℕ) (s : State) (us vs : List ℕ) → after img s (us ++ vs) ≡ after img (after img s us) vs

@@ -3,18 +3,18 @@ use Rattle.std.specs.Prelude.{true, false, ◌≡◌, ℕ, zero, suc, ◌+◌, �
 use mathlib.Core.List.{List, [], ◌∷◌}
 use Rattle.std.proofs.Math.Logic.{⊎_elim}
 use Rattle.std.proofs.Common.{not-suc-le-zero, arith}
-use Rattle.laws.specs.BelowLaws.{most-at}
-use Rattle.laws.specs.Cases.{true_or_false}
+use Rattle.laws.specs.Laws.Below.{most-at}
+use Rattle.laws.specs.Laws.Cases.{true_or_false}
 use Rattle.image.specs.Image.{nodes, channels, from, to, stations}
 use Rattle.verdict.specs.Accepted.{Accepted}
 use Rattle.state.specs.declared.State.{State}
 use Rattle.state.specs.State.{firings_at}
 use Rattle.fitting.specs.Fitting.{Steady}
-use Rattle.cycle.specs.Counters.{entered}
-use Rattle.cycle.specs.CountersLaws.{entered_source, entered_taken, limit_taken, entered-next, enabled-fires}
+use Rattle.cycle.specs.Laws.Counters.{entered}
+use Rattle.cycle.specs.Laws.Counting.{entered_source, entered_taken, limit_taken, entered-next, enabled-fires}
 use Rattle.cycle.specs.Cycle.{stalled, fires, state_after}
-use Rattle.cycle.specs.CycleLaws.{firings_next}
-use Rattle.cycle.specs.KeptLaws.{steady-next}
+use Rattle.cycle.specs.Laws.Cycle.{firings_next}
+use Rattle.cycle.specs.Laws.Kept.{steady-next}
 use Rattle.token_rule.specs.Cycles.{fired_in}
 use Rattle.token_rule.specs.Progress.{most_stations, Furthest, Awake}
 

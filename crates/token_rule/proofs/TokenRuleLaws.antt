@@ -5,7 +5,7 @@ use Rattle.std.proofs.Common.{append-nil, sym, ap, subst, ◌∙◌, zero-add, a
 use Rattle.std.proofs.Math.ListN.{length}
 use Rattle.image.specs.Image.{nodes}
 use Rattle.verdict.specs.Accepted.{Accepted}
-use Rattle.verdict.specs.AcceptedLaws.{accepted}
+use Rattle.verdict.specs.Laws.Accepted.{accepted}
 use Rattle.verdict.specs.Judge.{judge}
 use Rattle.strict.specs.Strict.{strict}
 use Rattle.state.specs.Told.{Told}
@@ -13,14 +13,14 @@ use Rattle.state.specs.declared.State.{State}
 use Rattle.state.specs.State.{firings_at}
 use Rattle.state.specs.Fresh.{fresh_state, fresh_answer, FreshDone}
 use Rattle.fitting.specs.Fitting.{Fitting}
-use Rattle.state.specs.FreshLaws.{fresh-cycles, fresh_firings}
-use Rattle.fitting.specs.FittingLaws.{fitting-fresh}
+use Rattle.state.specs.Laws.Fresh.{fresh-cycles, fresh_firings}
+use Rattle.fitting.specs.Laws.Fitting.{fitting-fresh}
 use Rattle.engine.specs.Answer.{sets_above}
 use Rattle.cycle.specs.Cycle.{after}
 use Rattle.token_rule.specs.Cycles.{fired_in}
 use Rattle.token_rule.proofs.CyclesLaws.{cycles-after, firings_after, fitting-after, sound-after}
 use Rattle.token_rule.specs.Safety.{Sound}
-use Rattle.token_rule.specs.SafetyLaws.{sound-fresh}
+use Rattle.token_rule.specs.Laws.Safety.{sound-fresh}
 use Rattle.token_rule.proofs.ArrivalsLaws.{arrivals-fresh}
 use Rattle.token_rule.specs.Progress.{Furthest}
 use Rattle.token_rule.proofs.ProgressLaws.{progress}

@@ -3,7 +3,7 @@ use Rattle.std.specs.Prelude.{List, [], ◌∷◌, ◌++◌, ℕ, ◌+◌, eqb, 
 use Rattle.laws.specs.Choice.{◌if◌else◌}
 use Rattle.laws.specs.Lists.{one_if}
 use Rattle.state.specs.declared.State.{State}
-use Rattle.cycle.specs.Cycle.{seen_at, fires, state_after}
+use Rattle.cycle.specs.Cycle.{reading_at, fires, state_after}
 
 -- "A node's firings are the cycles in which it fires by the rule."
 unfoldable pub fired_in : List ℕ → State → List ℕ → ℕ → ℕ
@@ -14,4 +14,4 @@ fired_in img s (word ∷ words) n = (1 if fires img word s n else 0) + fired_in 
 unfoldable pub arrivals : List ℕ → State → List ℕ → ℕ → List ℤ
 arrivals img s [] c = []
 arrivals img s (word ∷ words) c =
-    one_if (eqb (seen_at img s c).letter 84) (seen_at img s c).value ++ arrivals img (state_after img word s) words c
+    one_if (eqb (reading_at img s c).letter 84) (reading_at img s c).value ++ arrivals img (state_after img word s) words c

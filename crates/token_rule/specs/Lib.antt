@@ -1,5 +1,4 @@
 -- The token rule. A file NAME defines, and NAMELaws proves what others use instead of the definition's text. The theorem is `proofs/TokenRuleLaws`,
--- and beside it stand the laws behind it: so an edit of a definition is refused by a proof, while `specs/` still reads.
 -- What a reader has to believe: the cycles and what they do, the calls and the cycles they make, R, and the statement.
 pub mod Cycles
 pub mod Calls
@@ -7,4 +6,4 @@ pub mod Progress
 pub mod TokenRule
 -- What the proof carries: a sound state.
 pub mod Safety
-pub mod SafetyLaws
+pub mod Laws

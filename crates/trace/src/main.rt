@@ -12,7 +12,7 @@ ghost use Rattle.refusal.specs.Number.{number, number_of};
 ghost use Rattle.state.specs.Fresh.{fresh_state};
 ghost use Rattle.cycle.specs.Cycle.{state_after, after};
 ghost use Rattle.engine.specs.Answer.{step_number};
-ghost use Rattle.engine.specs.Taken.{state_number};
+ghost use Rattle.engine.specs.Loops.Taken.{state_number};
 ghost use Rattle.text.specs.Lines.{closing_text, refused_text};
 ghost use Rattle.writer.specs.Write.{Begins};
 ghost use Rattle.trace_input.specs.Input.{image_of, words_of, input_number};
@@ -55,7 +55,7 @@ struct Cycled {
 }
 
 // How many bytes of a line were written that is not refused.
-#[tactic(auto, using(refusal::specs::NumberLaws::number_positive))]
+#[tactic(auto, using(refusal::specs::Laws::Number::number_positive))]
 fn written(answer: Result<usize, Refusal>) -> usize
     requires { number_of answer ≡ 0 }
     ensures { answer ≡ Ok result }

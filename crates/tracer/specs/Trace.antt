@@ -7,22 +7,22 @@ use Rattle.relay.specs.declared.Reading.{Reading}
 use Rattle.state.specs.declared.State.{State}
 use Rattle.state.specs.State.{firings_at}
 use Rattle.state.specs.Fresh.{fresh_state}
-use Rattle.cycle.specs.Cycle.{seen_at, state_after, after}
+use Rattle.cycle.specs.Cycle.{reading_at, state_after, after}
 use Rattle.text.specs.Lines.{line_text, refused_text}
 use Rattle.text.specs.Trace.{trace_text}
 use Rattle.trace_input.specs.Input.{image_of, words_of, input_number}
 
 -- "for each cycle .. each channel's letter, with its value": the row of the cycle that a state begins, and of each cycle from there on
-abbrev pub row_seen : List ℕ → State → List Reading
-row_seen img s = table (seen_at img s) (channels img)
+abbrev pub readings_of : List ℕ → State → List Reading
+readings_of img s = table (reading_at img s) (channels img)
 
-unfoldable pub rows_from : List ℕ → State → List ℕ → List (List Reading)
-rows_from img s [] = []
-rows_from img s (word ∷ words) = row_seen img s ∷ rows_from img (state_after img word s) words
+unfoldable pub readings_from : List ℕ → State → List ℕ → List (List Reading)
+readings_from img s [] = []
+readings_from img s (word ∷ words) = readings_of img s ∷ readings_from img (state_after img word s) words
 
 -- that cycle's line
 unfoldable pub cycle_text : List ℕ → State → List ℕ
-cycle_text img s = line_text s.cycles (row_seen img s)
+cycle_text img s = line_text s.cycles (readings_of img s)
 
 -- "each node's firings"
 unfoldable pub firings_of : List ℕ → State → List ℕ
@@ -30,7 +30,7 @@ firings_of img s = table (firings_at s) (nodes img)
 
 -- the trace of an accepted image and its words, from the fresh state
 unfoldable pub trace_of : List ℕ → List ℕ → List ℕ
-trace_of img words = let s = fresh_state img in trace_text (rows_from img s words) (firings_of img (after img s words))
+trace_of img words = let s = fresh_state img in trace_text (readings_from img s words) (firings_of img (after img s words))
 
 -- what the program prints for an input. "A refusal prints only the line `refused` and the number."
 unfoldable pub printed : List ℕ → List ℕ

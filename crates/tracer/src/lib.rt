@@ -5,9 +5,9 @@ ghost use Rattle.std.specs.Prelude.{◌≡◌, ◌≤◌, length};
 ghost use Rattle.laws.specs.Table.{table};
 ghost use Rattle.state.specs.State.{firings_at};
 ghost use Rattle.engine.specs.Answer.{step_number};
-ghost use Rattle.engine.specs.Taken.{state_number};
+ghost use Rattle.engine.specs.Loops.Taken.{state_number};
 ghost use Rattle.refusal.specs.Number.{number_of};
-ghost use Rattle.text.specs.Lines.{state_at};
+ghost use Rattle.text.specs.Lines.{reading_in};
 ghost use Rattle.writer.specs.Write.{write_told};
 ghost use Rattle.tracer.specs.Done.{line_told, LineDone, ClosingDone};
 
@@ -25,7 +25,7 @@ pub struct Lined {
 
 // Each channel's letter beside its value.
 fn readings(letters: &[u8; 96], values: &[i32; 96]) -> [Reading; 96]
-    ensures { result ≡ table (state_at letters.now values.now) 96 }
+    ensures { result ≡ table (reading_in letters.now values.now) 96 }
 {
     array::from_fn(|c| Reading {
         letter: letters[c],

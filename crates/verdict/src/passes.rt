@@ -7,11 +7,11 @@ ghost use Rattle.laws.specs.Choice.{◌if◌else◌};
 ghost use Rattle.refusal.specs.Number.{number_of};
 ghost use Rattle.image.specs.Image.{channels, stations, inputs};
 ghost use Rattle.verdict.specs.Judge.{bad_kind, bad_wire, bad_port, bad_stations, bad_depth, judge};
-ghost use Rattle.image.specs.Ports.{Wired};
-ghost use Rattle.verdict.specs.Clear.{Sized};
-ghost use Rattle.verdict.specs.Passes.{depth_number, marks_below, twice_below, misses};
+ghost use Rattle.image.specs.Loops.Ports.{Wired};
+ghost use Rattle.verdict.specs.Laws.Clear.{Sized};
+ghost use Rattle.verdict.specs.Loops.Passes.{depth_number, fed_below, twice_below, misses};
 
-use image::{channel_at, channels, kind_at, nodes};
+use image::{channels, kind_at, nodes, wire_at};
 use refusal::Refusal;
 
 // By number, 0 for what is no kind: the judge asks before it knows that a kind is one, and needs no pearls.
@@ -35,34 +35,34 @@ fn bad_kind(image: &[u8], n: u8) -> bool
 }
 
 // Number 5, of channel c.
-#[tactic(auto, unfolding(crate::specs::Judge::bad_wire, image::specs::Readers::channel_at))]
+#[tactic(auto, unfolding(crate::specs::Judge::bad_wire, image::specs::Readers::wire_at))]
 fn bad_wire(image: &[u8], c: u8) -> bool
     ensures { result ≡ bad_wire image.now c }
 {
     let nodes = nodes(image);
-    let channel = channel_at(image, c);
-    (nodes <= channel.from) | (nodes <= channel.to)
+    let wire = wire_at(image, c);
+    (nodes <= wire.from) | (nodes <= wire.to)
 }
 
 // Number 6, of channel c.
-#[tactic(auto, unfolding(crate::specs::Judge::bad_port, image::specs::Readers::channel_at))]
+#[tactic(auto, unfolding(crate::specs::Judge::bad_port, image::specs::Readers::wire_at))]
 fn bad_port(image: &[u8], c: u8) -> bool
     ensures { result ≡ bad_port image.now c }
 {
-    let channel = channel_at(image, c);
-    inputs(kind_at(image, channel.to)) <= channel.port
+    let wire = wire_at(image, c);
+    inputs(kind_at(image, wire.to)) <= wire.port
 }
 
 // The ports that are fed, 3 places a node as the definition has them, if none is fed twice: number 7.
 fn feed_ports(image: &[u8]) -> Result<[bool; 192], Refusal>
     requires { Wired image.now (channels image.now) }
     ensures number { number_of result ≡ (7 if twice_below image.now (channels image.now) else 0) }
-    ensures marks { IfOk result (λ ports. ports ≡ marks_below image.now (channels image.now)) }
+    ensures fed { IfOk result (λ ports. ports ≡ fed_below image.now (channels image.now)) }
 {
     let c = channels(image);
     let mut ports = [false; 192];
     for i in 0..c {
-        let w = channel_at(image, i);
+        let w = wire_at(image, i);
         let at = 3 * w.to as usize + w.port as usize;
         if ports[at] {
             return Err(Refusal::FedTwice);
@@ -73,7 +73,7 @@ fn feed_ports(image: &[u8]) -> Result<[bool; 192], Refusal>
 }
 
 // Number 8, of node n: whether a port of it is not among those fed.
-#[tactic(auto, unfolding(crate::specs::Passes::misses))]
+#[tactic(auto, unfolding(crate::specs::Loops::Passes::misses))]
 fn misses_port(image: &[u8], ports: &[bool; 192], n: u8) -> bool
     ensures { result ≡ misses image.now ports.now n }
 {
@@ -84,36 +84,36 @@ fn misses_port(image: &[u8], ports: &[bool; 192], n: u8) -> bool
 }
 
 // Number 9, of channel c.
-#[tactic(auto, unfolding(crate::specs::Judge::bad_stations, image::specs::Readers::channel_at))]
+#[tactic(auto, unfolding(crate::specs::Judge::bad_stations, image::specs::Readers::wire_at))]
 fn bad_stations(image: &[u8], c: u8) -> bool
     ensures { result ≡ bad_stations image.now c }
 {
-    8 < channel_at(image, c).stations
+    8 < wire_at(image, c).stations
 }
 
 // Number 10, of channel c.
-#[tactic(auto, unfolding(crate::specs::Judge::bad_depth, image::specs::Readers::channel_at))]
+#[tactic(auto, unfolding(crate::specs::Judge::bad_depth, image::specs::Readers::wire_at))]
 fn bad_depth(image: &[u8], c: u8) -> bool
     ensures { result ≡ bad_depth image.now c }
 {
-    let depth = channel_at(image, c).depth;
+    let depth = wire_at(image, c).depth;
     (depth < 1) | (8 < depth)
 }
 
 // The stations on all channels, for number 11. No `sum`: that each addition fits is the loop's invariant.
-#[tactic(auto, unfolding(image::specs::Readers::channel_at))]
+#[tactic(auto, unfolding(image::specs::Readers::wire_at))]
 fn all_stations(image: &[u8]) -> u32
     ensures { result ≡ sum_below (stations image.now) (channels image.now) }
 {
     let mut total = 0;
     for c in 0..channels(image) {
-        total += channel_at(image, c).stations as u32;
+        total += wire_at(image, c).stations as u32;
     }
     total
 }
 
 // Numbers 9 to 11.
-#[tactic(auto, unfolding(crate::specs::Passes::depth_number))]
+#[tactic(auto, unfolding(crate::specs::Loops::Passes::depth_number))]
 fn judge_depths(image: &[u8]) -> Result<(), Refusal>
     ensures { number_of result ≡ depth_number image.now }
 {

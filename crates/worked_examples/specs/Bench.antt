@@ -1,4 +1,5 @@
 -- The definitions here, computed: a table of readings and eleven more cycles through a station, rows of 1, 2 and 8, and what is refused.
+use Prim.Native.Char.{code}
 use Rattle.std.specs.Prelude.{true, false, List, [], ◌∷◌, ◌++◌, ◌≡◌, refl, ℕ, eqb, ℤ, pos, negsuc, replicate, None, Some}
 use Rattle.laws.specs.Below.{all_below}
 use Rattle.laws.specs.Choice.{◌if◌else◌}
@@ -13,16 +14,16 @@ use Rattle.bench.specs.ByValue.{station_benched, row_benched, records_benched}
 
 -- the answers T, R, I and S, where no token was taken; the same where one was
 abbrev t : ℕ → Told
-t x = record { number = 0; letter = 84; value = pos x; taken = false }
+t x = record { number = 0; letter = code "T"; value = pos x; taken = false }
 
 abbrev r : ℕ → Told
-r x = record { number = 0; letter = 82; value = pos x; taken = false }
+r x = record { number = 0; letter = code "R"; value = pos x; taken = false }
 
 abbrev i : Told
-i = record { number = 0; letter = 73; value = pos 0; taken = false }
+i = record { number = 0; letter = code "I"; value = pos 0; taken = false }
 
 abbrev s : Told
-s = record { number = 0; letter = 83; value = pos 0; taken = false }
+s = record { number = 0; letter = code "S"; value = pos 0; taken = false }
 
 abbrev took : Told → Told
 took a = record { number = a.number; letter = a.letter; value = a.value; taken = true }
@@ -78,7 +79,7 @@ edges :
     let zeros : List Station = station (pos 0) (pos 0) 2 ∷ [] in
     (bench_answer full (Some (pos 6)) false ≡ t 4) × (bench_after full (Some (pos 6)) false ≡ one (pos 5)) ×
     (bench_answer zeros (Some (pos 6)) true ≡ r 0) × (bench_after zeros (Some (pos 6)) false ≡ one (pos 0)) ×
-    (bench_answer (one (negsuc 3)) None true ≡ record { number = 0; letter = 82; value = negsuc 3; taken = false }) ×
+    (bench_answer (one (negsuc 3)) None true ≡ record { number = 0; letter = code "R"; value = negsuc 3; taken = false }) ×
     (bench_after (one (negsuc 3)) None true ≡ one (negsuc 3))
 unfolding
     letter reading held station_of place_after stopped leaving row_after padded all_below zero_from fits bench_number refusal reply bench_answer

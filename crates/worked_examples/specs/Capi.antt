@@ -16,16 +16,16 @@ use Rattle.relay.specs.Link.{letter, reading}
 use Rattle.relay.specs.Station.{held, station_of, place_after}
 use Rattle.relay.specs.Row.{stopped, leaving, row_after}
 use Rattle.shell.specs.Queue.{waiting, queue_of, full}
-use Rattle.shell.specs.Channel.{blocked, arriving, input, stop_below, stop_above, seen, channel_after}
-use Rattle.state.specs.State.{node_at, mark_at, station_at, queue_at, channel_in, state_of}
+use Rattle.shell.specs.Channel.{blocked, arriving, input, stop_below, stop_above, channel_reading, channel_after}
+use Rattle.state.specs.State.{node_at, pending_at, station_at, queue_at, channel_in, state_of}
 use Rattle.state.specs.Fresh.{fresh_state}
 use Rattle.fitting.specs.Fits.{fits, cycles_fit}
-use Rattle.cycle.specs.Cycle.{stalled, input_at, blocked_at, all_ready, any_blocked, fires, node_after, channel_next, state_after, after}
+use Rattle.cycle.specs.Cycle.{stalled, input_at, blocked_at, all_ready, any_blocked, fires, node_after, channel_after_at, state_after, after}
 use Rattle.worked_examples.specs.Engine.{stationed, stalls}
-use Rattle.engine.specs.Taken.{state_number}
+use Rattle.engine.specs.Loops.Taken.{state_number}
 use Rattle.bench.specs.Bench.{bench_number}
 use Rattle.bench.specs.Bench as bench
-use Rattle.layout.specs.Bytes.{word_bytes, bits_of, token_bytes, node_bytes, station_bytes, queue_bytes, state_bytes}
+use Rattle.layout.specs.Bytes.{number_bytes, bits_of, token_bytes, node_bytes, station_bytes, queue_bytes, state_bytes}
 use Rattle.layout.specs.Bytes.{token_in, station_in, places_in, no_state, state_in, no_record, record_in, row_record, record_count, row_in}
 
 -- n bytes from a place on
@@ -46,7 +46,7 @@ record Tokens : Type 0 where
   a_record : station_bytes (record { tokens = pos 258 ∷ negsuc 1 ∷ []; count = 2 }) ≡ 2 ∷ 1 ∷ 0 ∷ 0 ∷ 254 ∷ 255 ∷ 255 ∷ 255 ∷ 2 ∷ []
 
 tokens : Tokens
-unfolding token_bytes word_bytes bits_of token_in signed station_bytes table flat_map
+unfolding token_bytes number_bytes bits_of token_in signed station_bytes table flat_map
 tokens =
     record {
       one = refl;
@@ -68,7 +68,7 @@ record Figure4 : Type 0 where
       take 516 five ≡
       four 5 ++ four 14 ++ four 4 ++ four 105 ++ four 5 ++ four 114 ++ four 3 ++ four 114 ++ four 4 ++ four 112 ++ four 3 ++ replicate 472 0
   -- the sum's token has passed on channel 2, and is pending on channel 3
-  marks-next : part 516 96 five ≡ 1 ∷ 1 ∷ 0 ∷ 1 ∷ replicate 92 0
+  pending-next : part 516 96 five ≡ 1 ∷ 1 ∷ 0 ∷ 1 ∷ replicate 92 0
   -- the queue of channel 0 holds 13, that of channel 1 holds 103 and 104, and the others nothing
   queues_last : part 7524 132 five ≡ four 13 ++ replicate 28 0 ++ (1 ∷ four 103 ++ four 104 ++ replicate 24 0 ++ (2 ∷ replicate 66 0))
 
@@ -76,11 +76,11 @@ figure4_bytes : Figure4
 unfolding all_below any_below pick_below signed padded table flat_map
     nodes channels kind parameter wire from to port feeds depths stations depth wrap exact next_value port_value next_of
     letter reading held station_of place_after stopped leaving row_after
-    waiting queue_of full blocked arriving input stop_below stop_above seen channel_after
-    node_at mark_at station_at queue_at channel_in state_of fresh_state
-    stalled input_at blocked_at all_ready any_blocked fires node_after channel_next state_after after
-    word_bytes bits_of token_bytes node_bytes station_bytes queue_bytes state_bytes
-figure4_bytes = record { nodes-first = refl; marks-next = refl; queues_last = refl }
+    waiting queue_of full blocked arriving input stop_below stop_above channel_reading channel_after
+    node_at pending_at station_at queue_at channel_in state_of fresh_state
+    stalled input_at blocked_at all_ready any_blocked fires node_after channel_after_at state_after after
+    number_bytes bits_of token_bytes node_bytes station_bytes queue_bytes state_bytes
+figure4_bytes = record { nodes-first = refl; pending-next = refl; queues_last = refl }
 
 -- a netlist with stations after twelve words
 abbrev twelve : List ℕ
@@ -100,10 +100,10 @@ stationed_bytes : Stationed
 unfolding all_below any_below pick_below signed padded table flat_map
     nodes channels kind parameter wire from to port feeds depths stations depth wrap exact next_value port_value next_of
     letter reading held station_of place_after stopped leaving row_after
-    waiting queue_of full blocked arriving input stop_below stop_above seen channel_after
-    node_at mark_at station_at queue_at channel_in state_of fresh_state
-    stalled input_at blocked_at all_ready any_blocked fires node_after channel_next state_after after
-    word_bytes bits_of token_bytes node_bytes station_bytes queue_bytes state_bytes
+    waiting queue_of full blocked arriving input stop_below stop_above channel_reading channel_after
+    node_at pending_at station_at queue_at channel_in state_of fresh_state
+    stalled input_at blocked_at all_ready any_blocked fires node_after channel_after_at state_after after
+    number_bytes bits_of token_bytes node_bytes station_bytes queue_bytes state_bytes
 stationed_bytes = record { nodes-first = refl; full-station = refl; three_stations = refl; a_queue = refl }
 
 -- bytes that are no state: none, one too few, one too many

@@ -1,5 +1,6 @@
 -- The definitions, computed: figure 4, whole; a netlist with stations on every channel through twenty cycles with stalls;
 -- states that fit their image and states that do not; the numbers of a step and of a run, in their order.
+use Prim.Native.Char.{code}
 use Rattle.std.specs.Prelude.{Bool, true, false, ◌&&◌, ◌||◌, List, [], ◌∷◌, ◌++◌, map, ◌≡◌, refl, ℕ, eqb, leb, ltb, ℤ, pos, get_or, set, replicate}
 use Rattle.std.proofs.Common.{sym, ap, ◌∙◌, arith}
 use Rattle.std.proofs.Math.Dec.{leb-zero}
@@ -22,21 +23,21 @@ use Rattle.relay.specs.Station.{held, station_of, place_after}
 use Rattle.relay.specs.Row.{stopped, leaving, row_after}
 use Rattle.shell.specs.declared.Queue.{Queue}
 use Rattle.shell.specs.Queue.{waiting, queue_of, full}
-use Rattle.shell.specs.Channel.{blocked, arriving, input, stop_below, stop_above, seen, channel_after}
+use Rattle.shell.specs.Channel.{blocked, arriving, input, stop_below, stop_above, channel_reading, channel_after}
 use Rattle.state.specs.declared.State.{State}
-use Rattle.state.specs.State.{node_at, firings_at, mark_at, station_at, queue_at, channel_in, state_of}
+use Rattle.state.specs.State.{node_at, firings_at, pending_at, station_at, queue_at, channel_in, state_of}
 use Rattle.state.specs.Fresh.{fresh_state, fresh_answer, zeros}
-use Rattle.cycle.specs.Cycle.{stalled, input_at, blocked_at, seen_at, all_ready, any_blocked, fires, node_after, channel_next}
+use Rattle.cycle.specs.Cycle.{stalled, input_at, blocked_at, reading_at, all_ready, any_blocked, fires, node_after, channel_after_at}
 use Rattle.cycle.specs.Cycle.{state_after, after, letters_of, values_of}
-use Rattle.fitting.specs.Fits.{cycles_fit, firings_fit, marks_fit, stations_fit, counts_fit, node_clear, mark_clear, station_clear, queue_clear}
+use Rattle.fitting.specs.Fits.{cycles_fit, firings_fit, pending_fit, stations_fit, counts_fit, node_clear, pending_clear, station_clear, queue_clear}
 use Rattle.fitting.specs.Fits.{unused_clear, balanced, fits}
-use Rattle.engine.specs.Answer.{sets_above, step_number, step_of, step_answer, letters_written, values_written, step_more, ran_from, run_answer}
-use Rattle.engine.specs.AnswerLaws.{step-none, step-made}
+use Rattle.engine.specs.Answer.{sets_above, step_number, number_of_step, step_answer, letters_written, values_written, step_more, ran_from, run_answer}
+use Rattle.engine.specs.Laws.Answer.{step-none, step-made}
 
 -- the trace's lines from a state on, and each node's firings after them
 abbrev lines : List ℕ → State → List ℕ → List (List Reading)
 lines img st [] = []
-lines img st (w ∷ ws) = table (seen_at img st) (channels img) ∷ lines img (state_after img w st) ws
+lines img st (w ∷ ws) = table (reading_at img st) (channels img) ∷ lines img (state_after img w st) ws
 
 abbrev fired : List ℕ → State → List ℕ → List ℕ
 fired img st words = table (firings_at (after img st words)) (nodes img)
@@ -105,29 +106,29 @@ traced : Traced
 unfolding all_below any_below pick_below signed padded table
     nodes channels kind parameter wire from to port feeds depths stations depth wrap exact next_value port_value next_of
     letter reading held station_of place_after stopped leaving row_after
-    waiting queue_of full blocked arriving input stop_below stop_above seen channel_after
-    node_at mark_at station_at queue_at channel_in state_of fresh_state
-    stalled input_at blocked_at seen_at all_ready any_blocked fires node_after channel_next state_after after
+    waiting queue_of full blocked arriving input stop_below stop_above channel_reading channel_after
+    node_at pending_at station_at queue_at channel_in state_of fresh_state
+    stalled input_at blocked_at reading_at all_ready any_blocked fires node_after channel_after_at state_after after
 traced = record { figure4_trace = refl; figure4-fired = refl; stationed_trace = refl; stationed-fired = refl }
 
 -- ---- number 21
 -- figure 4's state of so many cycles, with these firings, pending marks, stations and queues, and nothing past a list's end
 abbrev state : ℕ → List ℕ → List ℕ → List Station → List Queue → State
-state cycles firings marks stations queues =
+state cycles firings pending stations queues =
     record {
       cycles = cycles;
       nodes = table (λ n. record { value = get_or (pos 10 ∷ pos 100 ∷ []) n (pos 0); firings = get_or firings n 0 }) 64;
-      pending = padded 96 0 marks;
+      pending = padded 96 0 pending;
       stations = padded 768 (station_of []) stations;
       queues = padded 96 (queue_of []) queues;
     }
 
 -- a mark on each of the four channels; the state where no node has fired
-abbrev marked : List ℕ
-marked = replicate 4 1
+abbrev all_pending : List ℕ
+all_pending = replicate 4 1
 
 abbrev at : ℕ → State
-at cycles = state cycles [] marked [] []
+at cycles = state cycles [] all_pending [] []
 
 fresh-state : fresh_state figure4 ≡ at 0
 unfolding signed padded table nodes channels parameter depths stations station_of queue_of state_of fresh_state
@@ -146,9 +147,9 @@ at_firings cycles = rw (leb-zero cycles) refl
 
 at_others :
     (cycles : ℕ) → let st = at cycles in
-    (marks_fit figure4 st && counts_fit figure4 st && unused_clear figure4 st && all_below (balanced figure4 st) (channels figure4)) ≡ true
-unfolding all_below sum_below padded table nodes channels wire from to depths stations depth station_of queue_of node_at mark_at station_at queue_at
-    zero_from marks_fit stations_fit counts_fit node_clear mark_clear station_clear queue_clear unused_clear balanced
+    (pending_fit figure4 st && counts_fit figure4 st && unused_clear figure4 st && all_below (balanced figure4 st) (channels figure4)) ≡ true
+unfolding all_below sum_below padded table nodes channels wire from to depths stations depth station_of queue_of node_at pending_at station_at queue_at
+    zero_from pending_fit stations_fit counts_fit node_clear pending_clear station_clear queue_clear unused_clear balanced
 at_others cycles = refl
 
 at-fits : (cycles : ℕ) → leb cycles 1000000 ≡ true → fits figure4 (at cycles) ≡ true
@@ -161,16 +162,16 @@ misfits =
     -- cycle count 1,000,001
     at 1000001
     -- each node has fired in no cycle
-    ∷ state 0 (replicate 5 1) marked [] []
+    ∷ state 0 (replicate 5 1) all_pending [] []
     -- a mark of 2 for two tokens
     ∷ state 1 (1 ∷ []) (2 ∷ 1 ∷ 1 ∷ 1 ∷ []) [] []
     -- three tokens in a queue of depth 2
-    ∷ state 3 (3 ∷ []) marked [] (queue_of (pos 10 ∷ pos 11 ∷ pos 12 ∷ []) ∷ [])
+    ∷ state 3 (3 ∷ []) all_pending [] (queue_of (pos 10 ∷ pos 11 ∷ pos 12 ∷ []) ∷ [])
     -- a token that an empty queue does not hold; node 5 has fired; a mark on channel 4; a token in a station that channel 0 does not have
-    ∷ state 0 [] marked [] (record { tokens = pos 7 ∷ replicate 7 (pos 0); count = 0 } ∷ [])
-    ∷ state 1 (0 ∷ 0 ∷ 0 ∷ 0 ∷ 0 ∷ 1 ∷ []) marked [] []
+    ∷ state 0 [] all_pending [] (record { tokens = pos 7 ∷ replicate 7 (pos 0); count = 0 } ∷ [])
+    ∷ state 1 (0 ∷ 0 ∷ 0 ∷ 0 ∷ 0 ∷ 1 ∷ []) all_pending [] []
     ∷ state 0 [] (replicate 5 1) [] []
-    ∷ state 0 [] marked (station_of (pos 7 ∷ []) ∷ []) []
+    ∷ state 0 [] all_pending (station_of (pos 7 ∷ []) ∷ []) []
     -- no token on channel 0; and none where its to node has taken one that never was, so that 0 + 1 - 2 would have to be 0
     ∷ state 0 [] (0 ∷ 1 ∷ 1 ∷ 1 ∷ []) [] []
     ∷ state 2 (0 ∷ 0 ∷ 2 ∷ 2 ∷ 2 ∷ []) (0 ∷ 0 ∷ 1 ∷ 1 ∷ []) [] []
@@ -179,7 +180,7 @@ misfits =
 -- the conditions without the fifth, "every place that no .. uses is 0"
 abbrev conditions : State → List Bool
 conditions st =
-    cycles_fit figure4 st ∷ firings_fit figure4 st ∷ marks_fit figure4 st ∷ counts_fit figure4 st ∷ all_below (balanced figure4 st) (channels figure4) ∷ []
+    cycles_fit figure4 st ∷ firings_fit figure4 st ∷ pending_fit figure4 st ∷ counts_fit figure4 st ∷ all_below (balanced figure4 st) (channels figure4) ∷ []
 
 record Misfit : Type 0 where
   misfit : map (fits figure4) misfits ≡ replicate 10 false
@@ -199,8 +200,8 @@ record Misfit : Type 0 where
   station_count : counts_fit stationed (state 0 [] [] (record { tokens = pos 1 ∷ pos 2 ∷ []; count = 3 } ∷ []) []) ≡ false
 
 misfitted : Misfit
-unfolding all_below sum_below padded table nodes channels wire from to depths stations depth station_of queue_of node_at mark_at station_at queue_at
-    zero_from cycles_fit firings_fit marks_fit stations_fit counts_fit node_clear mark_clear station_clear queue_clear unused_clear balanced fits
+unfolding all_below sum_below padded table nodes channels wire from to depths stations depth station_of queue_of node_at pending_at station_at queue_at
+    zero_from cycles_fit firings_fit pending_fit stations_fit counts_fit node_clear pending_clear station_clear queue_clear unused_clear balanced fits
 misfitted = record { misfit = refl; missed = refl; station_count = refl }
 
 -- ---- the answers
@@ -243,7 +244,7 @@ record Answered : Type 0 where
   then_0 : step_number figure4 (at 999999) 31 4 4 ≡ 0
   -- a step writes four of six places; a refused one writes none
   step-answer : record { number = 0; state = state_after figure4 1 (at 0) } ≡ step_answer figure4 (at 0) 1 letters values
-  step-letters : 84 ∷ 84 ∷ 84 ∷ 84 ∷ 7 ∷ 7 ∷ [] ≡ letters_written figure4 (at 0) 1 letters values
+  step-letters : code "T" ∷ code "T" ∷ code "T" ∷ code "T" ∷ 7 ∷ 7 ∷ [] ≡ letters_written figure4 (at 0) 1 letters values
   step-values : pos 10 ∷ pos 100 ∷ pos 0 ∷ pos 0 ∷ pos 7 ∷ pos 7 ∷ [] ≡ values_written figure4 (at 0) 1 letters values
   none-answer : record { number = 12; state = at 0 } ≡ step_answer figure4 (at 0) 32 letters values
   none-letters : letters ≡ letters_written figure4 (at 0) 32 letters values
@@ -264,9 +265,9 @@ record Answered : Type 0 where
 answered : Answered
 unfolding any_below sum_below padded table nodes channels kind wire from to port feeds depths stations depth inputs
     judge bad_kind bad_wire bad_port fed_twice not_fed bad_stations bad_depth
-    letter reading held leaving waiting queue_of full arriving stop_below seen
-    node_at mark_at station_at queue_at channel_in state_of seen_at state_after after letters_of values_of
-    cycles_fit fits sets_above step_number step_of step_more ran_from run_answer
+    letter reading held leaving waiting queue_of full arriving stop_below channel_reading
+    node_at pending_at station_at queue_at channel_in state_of reading_at state_after after letters_of values_of
+    cycles_fit fits sets_above step_number number_of_step step_more ran_from run_answer
 answered =
     let step = step-made figure4 (at 0) 1 letters values 0 (sym (step-sound 0 1 6 6 refl)) refl in
     let none = step-none figure4 (at 0) 32 letters values 12 (sym (step-sound 0 32 6 6 refl)) (λ e. omega arith) in

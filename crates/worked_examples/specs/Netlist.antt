@@ -3,7 +3,7 @@ use Rattle.std.specs.Prelude.{List, [], ◌∷◌, ◌++◌, ◌≡◌, refl, �
 use Rattle.laws.specs.Below.{any_below, sum_below}
 use Rattle.laws.specs.Signed.{signed}
 use Rattle.image.specs.Image.{feeds, nodes, channels, kind, parameter, wire, from, to, port, depths, stations, depth, inputs}
-use Rattle.image.specs.Ports.{ports_below}
+use Rattle.image.specs.Loops.Ports.{ports_below}
 use Rattle.verdict.specs.Judge.{judge, bad_kind, bad_wire, bad_port, fed_twice, not_fed, bad_stations, bad_depth}
 
 -- kinds 1 1 6 2 2; parameters 10 100 0 0 0; wires 0-2-0, 1-2-1, 2-3-0, 2-4-0; depths 0/2, 0/2, 0/1, 0/1

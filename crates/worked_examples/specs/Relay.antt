@@ -1,4 +1,5 @@
 -- The definitions here, computed: a table of readings, a station through eleven cycles, a row of two stations, and records.
+use Prim.Native.Char.{code}
 use Rattle.std.specs.Prelude.{Some, Bool, true, false, List, [], ◌∷◌, ◌++◌, ◌≡◌, refl, ℕ, pred, eqb, ltb, ℤ, pos, negsuc, replicate}
 use Rattle.std.specs.Bool.{then_some}
 use Rattle.laws.specs.Below.{all_below}
@@ -12,19 +13,19 @@ use Rattle.relay.specs.RowCycle.{places, row_cycle}
 
 -- the letters T and R with their value, T also with one below 0; I and S
 abbrev pub t : ℕ → Reading
-t x = record { letter = 84; value = pos x }
+t x = record { letter = code "T"; value = pos x }
 
 abbrev pub t- : ℕ → Reading
-t- x = record { letter = 84; value = negsuc (pred x) }
+t- x = record { letter = code "T"; value = negsuc (pred x) }
 
 abbrev pub r : ℕ → Reading
-r x = record { letter = 82; value = pos x }
+r x = record { letter = code "R"; value = pos x }
 
 abbrev pub i : Reading
-i = record { letter = 73; value = pos 0 }
+i = record { letter = code "I"; value = pos 0 }
 
 abbrev pub s : Reading
-s = record { letter = 83; value = pos 0 }
+s = record { letter = code "S"; value = pos 0 }
 
 -- a list of bits
 abbrev bits : List ℕ → List Bool

@@ -6,7 +6,7 @@ use Rattle.refusal.specs.declared.Refusal.TheVariants.{Room}
 use Rattle.worked_examples.specs.Relay.{t, t-, r, i, s}
 use Rattle.text.specs.Ascii.{ascii}
 use Rattle.text.specs.Decimal.{places, decimal, signed_text}
-use Rattle.text.specs.Lines.{shows_value, state_text, line_text, count_text, word_text, closing_text, refused_text, state_at}
+use Rattle.text.specs.Lines.{shows_value, reading_text, line_text, count_text, labelled_text, closing_text, refused_text, reading_in}
 use Rattle.text.specs.Trace.{header, lines_text, trace_text}
 use Rattle.writer.specs.Write.{written_answer, written_over}
 
@@ -30,27 +30,27 @@ lines :
     (line_text 4095 (s ∷ i ∷ t- 2147483648 ∷ t 0 ∷ []) ≡ ascii "4095 S I T-2147483648 T0\n") ×
     -- no channels
     (line_text 7 [] ≡ ascii "7\n")
-unfolding line_text state_text shows_value signed_text decimal places flat_map ascii
+unfolding line_text reading_text shows_value signed_text decimal places flat_map ascii
 lines = (refl, refl, refl)
 
 closing : (closing_text (8 ∷ 0 ∷ 1000000 ∷ []) ≡ ascii "fired 8 0 1000000\n") × (closing_text (3 ∷ []) ≡ ascii "fired 3\n")
-unfolding closing_text word_text count_text decimal places flat_map ascii
+unfolding closing_text labelled_text count_text decimal places flat_map ascii
 closing = (refl, refl)
 
 refusal : (refused_text 3 ≡ ascii "refused 3\n") × (refused_text 12 ≡ ascii "refused 12\n")
-unfolding refused_text word_text count_text decimal places flat_map ascii
+unfolding refused_text labelled_text count_text decimal places flat_map ascii
 refusal = (refl, refl)
 
--- states in two arrays, the second of them shorter
-row : table (state_at (84 ∷ 73 ∷ 82 ∷ []) (negsuc 4 ∷ pos 0 ∷ [])) 3 ≡ t- 5 ∷ i ∷ r 0 ∷ []
-unfolding state_at table
-row = refl
+-- readings in two arrays, the second of them shorter
+readings : table (reading_in (ascii "TIR") (negsuc 4 ∷ pos 0 ∷ [])) 3 ≡ t- 5 ∷ i ∷ r 0 ∷ []
+unfolding reading_in table ascii
+readings = refl
 
 -- ---- traces: of two cycles, and of none
 traces :
     (trace_text ((t 10 ∷ i ∷ []) ∷ (r 11 ∷ t- 3 ∷ []) ∷ []) (2 ∷ 1 ∷ []) ≡ ascii "cycle states\n0 T10 I\n1 R11 T-3\nfired 2 1\n") ×
     (trace_text [] (0 ∷ []) ≡ ascii "cycle states\nfired 0\n")
-unfolding trace_text header lines_text line_text closing_text word_text state_text count_text shows_value signed_text decimal places flat_map ascii
+unfolding trace_text header lines_text line_text closing_text labelled_text reading_text count_text shows_value signed_text decimal places flat_map ascii
 traces = (refl, refl)
 
 -- ---- a text of three bytes, written to slices of two, three and five

@@ -13,11 +13,11 @@ use Rattle.relay.specs.Link.{letter, reading}
 use Rattle.relay.specs.Station.{held, station_of, place_after}
 use Rattle.relay.specs.Row.{stopped, leaving, row_after}
 use Rattle.shell.specs.Queue.{waiting, queue_of, full}
-use Rattle.shell.specs.Channel.{blocked, arriving, input, stop_below, stop_above, seen, channel_after}
+use Rattle.shell.specs.Channel.{blocked, arriving, input, stop_below, stop_above, channel_reading, channel_after}
 use Rattle.state.specs.declared.State.{State}
-use Rattle.state.specs.State.{node_at, mark_at, station_at, queue_at, channel_in, state_of}
+use Rattle.state.specs.State.{node_at, pending_at, station_at, queue_at, channel_in, state_of}
 use Rattle.state.specs.Fresh.{fresh_state, zeros}
-use Rattle.cycle.specs.Cycle.{stalled, input_at, blocked_at, seen_at, all_ready, any_blocked, fires, node_after, channel_next, state_after}
+use Rattle.cycle.specs.Cycle.{stalled, input_at, blocked_at, reading_at, all_ready, any_blocked, fires, node_after, channel_after_at, state_after}
 use Rattle.engine.specs.Answer.{sets_above, step_answer, letters_written, values_written, run_answer}
 use Rattle.token_rule.specs.Cycles.{fired_in, arrivals}
 use Rattle.token_rule.specs.Calls.{Call, step, run, returned, Done, Chain, goes, roomy, makes, run_cycles, cycles_in, cycles_of}
@@ -88,9 +88,9 @@ came :
 unfolding all_below any_below pick_below signed padded table
     nodes channels kind parameter wire from to port feeds depths stations depth wrap exact next_value port_value next_of
     letter reading held station_of place_after stopped leaving row_after
-    waiting queue_of full blocked arriving input stop_below stop_above seen channel_after
-    node_at mark_at station_at queue_at channel_in state_of fresh_state
-    stalled input_at blocked_at seen_at all_ready any_blocked fires node_after channel_next state_after
+    waiting queue_of full blocked arriving input stop_below stop_above channel_reading channel_after
+    node_at pending_at station_at queue_at channel_in state_of fresh_state
+    stalled input_at blocked_at reading_at all_ready any_blocked fires node_after channel_after_at state_after
     words fired_in arrivals
 came = (refl, refl)
 

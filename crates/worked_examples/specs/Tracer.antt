@@ -17,23 +17,23 @@ use Rattle.relay.specs.Link.{letter, reading}
 use Rattle.relay.specs.Station.{held, station_of, place_after}
 use Rattle.relay.specs.Row.{stopped, leaving, row_after}
 use Rattle.shell.specs.Queue.{waiting, queue_of, full}
-use Rattle.shell.specs.Channel.{blocked, arriving, input, stop_below, stop_above, seen, channel_after}
-use Rattle.state.specs.State.{node_at, mark_at, station_at, queue_at, channel_in, state_of}
+use Rattle.shell.specs.Channel.{blocked, arriving, input, stop_below, stop_above, channel_reading, channel_after}
+use Rattle.state.specs.State.{node_at, pending_at, station_at, queue_at, channel_in, state_of}
 use Rattle.state.specs.declared.State.{State}
 use Rattle.state.specs.Fresh.{fresh_state, zeros}
-use Rattle.fitting.specs.Fits.{cycles_fit, firings_fit, marks_fit, stations_fit, counts_fit, node_clear, mark_clear, station_clear, queue_clear}
+use Rattle.fitting.specs.Fits.{cycles_fit, firings_fit, pending_fit, stations_fit, counts_fit, node_clear, pending_clear, station_clear, queue_clear}
 use Rattle.fitting.specs.Fits.{unused_clear, balanced, fits}
-use Rattle.cycle.specs.Cycle.{stalled, input_at, blocked_at, seen_at, all_ready, any_blocked, fires, node_after, channel_next, state_after, after}
+use Rattle.cycle.specs.Cycle.{stalled, input_at, blocked_at, reading_at, all_ready, any_blocked, fires, node_after, channel_after_at, state_after, after}
 use Rattle.engine.specs.Answer.{sets_above, step_number}
-use Rattle.engine.specs.Taken.{state_number}
+use Rattle.engine.specs.Loops.Taken.{state_number}
 use Rattle.worked_examples.specs.Engine.{words, stationed, stalls}
 use Rattle.text.specs.Ascii.{ascii}
 use Rattle.text.specs.Decimal.{places, decimal, signed_text}
-use Rattle.text.specs.Lines.{shows_value, state_text, line_text, count_text, word_text, closing_text, refused_text}
+use Rattle.text.specs.Lines.{shows_value, reading_text, line_text, count_text, labelled_text, closing_text, refused_text}
 use Rattle.text.specs.Trace.{header, lines_text, trace_text}
 use Rattle.writer.specs.Write.{written_answer, written_over}
 use Rattle.trace_input.specs.Input.{image_due, image_of, word_at, word_count, words_of, input_number}
-use Rattle.tracer.specs.Trace.{rows_from, cycle_text, firings_of, trace_of, printed}
+use Rattle.tracer.specs.Trace.{readings_from, cycle_text, firings_of, trace_of, printed}
 use Rattle.tracer.specs.Done.{line_answer, line_over, closing_answer, closing_over}
 
 -- a word below 256 as its bytes, and one whose bit 63 alone is set
@@ -120,11 +120,11 @@ unfolding all_below any_below sum_below pick_below signed padded table flat_map
     nodes channels kind parameter wire from to port feeds depths stations depth inputs wrap exact next_value port_value next_of
     judge bad_kind bad_wire bad_port fed_twice not_fed bad_stations bad_depth
     letter reading held station_of place_after stopped leaving row_after
-    waiting queue_of full blocked arriving input stop_below stop_above seen channel_after
-    node_at mark_at station_at queue_at channel_in state_of fresh_state
-    stalled input_at blocked_at seen_at all_ready any_blocked fires node_after channel_next state_after after
-    sets_above ascii places decimal signed_text shows_value state_text line_text count_text word_text closing_text refused_text header lines_text trace_text
-    image_due image_of word_at word_count words_of input_number rows_from firings_of trace_of printed
+    waiting queue_of full blocked arriving input stop_below stop_above channel_reading channel_after
+    node_at pending_at station_at queue_at channel_in state_of fresh_state
+    stalled input_at blocked_at reading_at all_ready any_blocked fires node_after channel_after_at state_after after
+    sets_above ascii places decimal signed_text shows_value reading_text line_text count_text labelled_text closing_text refused_text header lines_text trace_text
+    image_due image_of word_at word_count words_of input_number readings_from firings_of trace_of printed
 all_printed =
     record {
       of_figure4 = refl;
@@ -231,12 +231,12 @@ unfolding all_below any_below sum_below pick_below signed padded table flat_map
     nodes channels kind parameter wire from to port feeds depths stations depth inputs wrap exact next_value port_value next_of
     judge bad_kind bad_wire bad_port fed_twice not_fed bad_stations bad_depth
     letter reading held station_of place_after stopped leaving row_after
-    waiting queue_of full blocked arriving input stop_below stop_above seen channel_after
-    node_at mark_at station_at queue_at channel_in state_of fresh_state zeros
-    stalled input_at blocked_at seen_at all_ready any_blocked fires node_after channel_next state_after
-    zero_from cycles_fit firings_fit marks_fit stations_fit counts_fit node_clear mark_clear station_clear queue_clear unused_clear balanced fits
+    waiting queue_of full blocked arriving input stop_below stop_above channel_reading channel_after
+    node_at pending_at station_at queue_at channel_in state_of fresh_state zeros
+    stalled input_at blocked_at reading_at all_ready any_blocked fires node_after channel_after_at state_after
+    zero_from cycles_fit firings_fit pending_fit stations_fit counts_fit node_clear pending_clear station_clear queue_clear unused_clear balanced fits
     sets_above step_number state_number
-    ascii places decimal signed_text shows_value state_text line_text count_text word_text closing_text
+    ascii places decimal signed_text shows_value reading_text line_text count_text labelled_text closing_text
     written_answer written_over firings_of cycle_text line_answer line_over closing_answer closing_over
 called =
     record {

@@ -7,7 +7,7 @@
 
 ghost use mathlib.Core.List.{List, flat_map};
 ghost use Rattle.std.specs.Prelude.{◌≡◌, ℕ, ◌+◌, ◌≤◌, length};
-ghost use Rattle.writer.specs.Put.{Put};
+ghost use Rattle.writer.specs.Loops.Put.{Put};
 
 // A way to write items of a type.
 pub trait Text<T: Copy> {

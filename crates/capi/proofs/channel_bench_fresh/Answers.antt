@@ -1,8 +1,8 @@
 -- `capi::channel_bench_fresh` meets its contract. Assumes nothing.
 use mathlib.Core.Path.{refl}
 use native.Mathlib.Omega.{arith}
-use Rattle.refusal.specs.NumberLaws.{number_positive}
-use Rattle.capi.specs.CallsLaws.{fresh_made, fresh_refused}
+use Rattle.refusal.specs.Laws.Number.{number_positive}
+use Rattle.capi.specs.Laws.Calls.{fresh_made, fresh_refused}
 use Rattle.capi.proofs.channel_bench_fresh.Goals as goal
 
 pub returns-in-Ok : goal.returns-in-Ok

@@ -5,8 +5,8 @@ use Prim.Native.Nat.{◌≤◌}
 use lib.ListN.{length}
 use Rattle.text.specs.Ascii.{ascii}
 use Rattle.text.specs.Trace.{header}
-use Rattle.writer.specs.WriteLaws.{write_none, write_made}
-use Rattle.capi.specs.CallsLaws.{text-called}
+use Rattle.writer.specs.Laws.Write.{write_none, write_made}
+use Rattle.capi.specs.Laws.Calls.{text-called}
 use Rattle.capi.proofs.channel_bench_header_line.Goals as goal
 
 long : length header ≡ 13

@@ -5,7 +5,7 @@ use Rattle.std.specs.Bool.{then_some}
 use Rattle.relay.specs.declared.Row.{Row}
 use Rattle.bench.specs.ByValue.{BenchedTold, benched_told, row_benched}
 use Rattle.layout.specs.Bytes.{record_count}
-use Rattle.capi.specs.RecordsLaws.{ok_number, err-number, told_call, row_sized, row-called, row_refused}
+use Rattle.capi.specs.Laws.Records.{ok_number, err-number, told_call, row_sized, row-called, row_refused}
 use Rattle.capi.proofs.channel_bench_row.Goals.{After-tell-number}
 use Rattle.capi.proofs.channel_bench_row.Goals as goal
 

@@ -1,5 +1,5 @@
 -- `capi::channel_bench_run` meets its contract. Assumes nothing.
-use Rattle.capi.specs.CallsLaws.{run-called}
+use Rattle.capi.specs.Laws.Calls.{run-called}
 use Rattle.capi.proofs.channel_bench_run.Goals as goal
 
 pub returns-then-ran-ne0 : goal.returns-then-ran-ne0

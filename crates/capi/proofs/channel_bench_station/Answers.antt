@@ -5,7 +5,7 @@ use Rattle.std.specs.Bool.{then_some}
 use Rattle.bench.specs.ByValue.{BenchedTold, benched_told, station_benched}
 use Rattle.relay.specs.declared.Station.{Station}
 use Rattle.layout.specs.Bytes.{record_in}
-use Rattle.capi.specs.RecordsLaws.{ok_number, err-number, told_call, station-called, station_refused}
+use Rattle.capi.specs.Laws.Records.{ok_number, err-number, told_call, station-called, station_refused}
 use Rattle.capi.proofs.channel_bench_station.Goals.{After-tell-number}
 use Rattle.capi.proofs.channel_bench_station.Goals as goal
 

@@ -1,8 +1,8 @@
 -- `capi::channel_bench_step` meets its contract. Assumes nothing.
 use mathlib.Core.Path.{refl}
 use native.Mathlib.Omega.{arith}
-use Rattle.refusal.specs.NumberLaws.{number_positive}
-use Rattle.capi.specs.CallsLaws.{step-called, step_refused}
+use Rattle.refusal.specs.Laws.Number.{number_positive}
+use Rattle.capi.specs.Laws.Calls.{step-called, step_refused}
 use Rattle.capi.proofs.channel_bench_step.Goals as goal
 
 pub returns-in-Ok : goal.returns-in-Ok

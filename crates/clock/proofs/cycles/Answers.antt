@@ -13,18 +13,18 @@ use borrow.Author.Rules.{rules}
 use lib.IntN.{ℤ, pos}
 use lib.ListN.{take, get_or}
 use Rattle.laws.specs.Choice.{◌if◌else◌}
-use Rattle.laws.specs.SignedLaws.{told}
+use Rattle.laws.specs.Laws.Signed.{told}
 use Rattle.laws.specs.Lists.{holds_two}
-use Rattle.image.specs.declared.Channel.{Channel as Wire}
+use Rattle.image.specs.declared.Wire.{Wire}
 use Rattle.image.specs.Image.{nodes, channels}
 use Rattle.verdict.specs.Accepted.{Accepted}
-use Rattle.verdict.specs.AcceptedLaws.{accepted}
+use Rattle.verdict.specs.Laws.Accepted.{accepted}
 use mir.Syntax.{w32}
 use mir.Val.{SFits}
 use mir.Facts.{to_z-of_z}
 use Rattle.laws.specs.Below.{any_below}
 use Rattle.laws.specs.Table.{table, table_over}
-use Rattle.image.specs.Ports.{ports_below}
+use Rattle.image.specs.Loops.Ports.{ports_below}
 use Rattle.std.specs.Int.{from_bool}
 use Rattle.std.specs.Option.{is_some, unwrap_or}
 use Rattle.relay.specs.Link.{Link, token}
@@ -34,13 +34,13 @@ use Rattle.shell.specs.Channel.{arriving}
 use Rattle.state.specs.State.{no_node, node_at, channel_in}
 use Rattle.state.specs.declared.State.{State}
 use Rattle.cycle.specs.Cycle.{input_at, state_after, after}
-use Rattle.cycle.specs.Parts.{starved_below, brought_below, blocked_below, fires_below, nodes_below, moved_below}
-use Rattle.cycle.specs.PartsLaws.{link_in, stop_in, wire-read, wire-within}
-use Rattle.cycle.specs.Turns.{source_read, arriving-read, stop_read, full-read, input-read, held-read, starved_read, brought_read, blocked-read}
-use Rattle.cycle.specs.Turns.{station-read, row_turn, link_read, last_read, ends_read, mark_read, queue_read, queue_idle, channel_turn}
-use Rattle.cycle.specs.Turns.{fires-read, fired-read, gated_turn, cycle_turn, after_next}
-use Rattle.cycle.specs.KeptLaws.{fitting-next}
-use Rattle.cycle.specs.Parts.{no_wire, wires_below}
+use Rattle.cycle.specs.Loops.Parts.{starved_below, brought_below, blocked_below, fires_below, nodes_below, moved_below}
+use Rattle.cycle.specs.Loops.PartsLaws.{link_in, stop_in, wire-read, wire-within}
+use Rattle.cycle.specs.Loops.Turns.{source_read, arriving-read, stop_read, full-read, input-read, held-read, starved_read, brought_read, blocked-read}
+use Rattle.cycle.specs.Loops.Turns.{station-read, row_turn, link_read, last_read, ends_read, pending_read, queue_read, queue_idle, channel_turn}
+use Rattle.cycle.specs.Loops.Turns.{fires-read, fired-read, gated_turn, cycle_turn, after_next}
+use Rattle.cycle.specs.Laws.Kept.{fitting-next}
+use Rattle.cycle.specs.Loops.Parts.{no_wire, wires_below}
 use Rattle.clock.proofs.cycles.Goals.{In-loop-c, In-loop-c-2, then-length-gt0, else-length-gt0, then-stalls-starved, else-stalls-starved, then-j-length, else-j-length, then-length-gt0-2, else-length-gt0-2, then-takes-is_some, else-takes-is_some}
 use Rattle.clock.proofs.cycles.Goals as goal
 
@@ -270,7 +270,7 @@ loop-c-2-preserved c =
           ])
           _
           (c.from.ensures ∙ byte c.pending_after.result ∙ ap (λ (b : Bool). 1 if b else 0) c.pending_after.ensures
-          ∙ mark_read img net s fit i h _ e w _ _ stop ends.1),
+          ∙ pending_read img net s fit i h _ e w _ _ stop ends.1),
     )
 
 pub loop-word-preserved : goal.loop-word-preserved

@@ -6,8 +6,8 @@ use Rattle.relay.specs.Link.{token}
 use Rattle.state.specs.declared.State.{State}
 use Rattle.fitting.specs.Fitting.{Fitting}
 use Rattle.cycle.specs.Cycle.{after}
-use Rattle.cycle.specs.Parts.{starved_below, brought_below, blocked_below, fires_below, nodes_below, moved_below}
-use Rattle.cycle.specs.PartsLaws.{link_in}
+use Rattle.cycle.specs.Loops.Parts.{starved_below, brought_below, blocked_below, fires_below, nodes_below, moved_below}
+use Rattle.cycle.specs.Loops.PartsLaws.{link_in}
 use Rattle.clock.proofs.cycles.Given as goal
 
 -- the cycles of the first t words are made

@@ -5,8 +5,8 @@ use native.Mathlib.Numerals.{add-one}
 use native.Mathlib.Omega.{arith}
 use Rattle.laws.specs.Lists.{padded}
 use Rattle.laws.specs.Table.{table}
-use Rattle.cycle.specs.Parts.{wires_below}
-use Rattle.cycle.specs.PartsLaws.{wires_turn}
+use Rattle.cycle.specs.Loops.Parts.{wires_below}
+use Rattle.cycle.specs.Loops.PartsLaws.{wires_turn}
 use Rattle.clock.proofs.wires_of.Goals as goal
 
 pub loop-c-init : goal.loop-c-init
@@ -17,4 +17,4 @@ pub loop-c-preserved : goal.loop-c-preserved
 loop-c-preserved c =
     let img = c.args.netlist.image.now in
     let h : c.loop-c.c < 96 = omega (arith, c.channels-c-end.ensures.few) in
-    rw add-one (wires_turn img c.loop-c.c h c.loop-c.wires c.loop-c.invariant c.channel.result c.channel.ensures.value)
+    rw add-one (wires_turn img c.loop-c.c h c.loop-c.wires c.loop-c.invariant c.wire.result c.wire.ensures.value)

@@ -1,5 +1,5 @@
 use mathlib.Core.Path.{◌≡◌}
-use Rattle.cycle.specs.Parts.{wires_below}
+use Rattle.cycle.specs.Loops.Parts.{wires_below}
 use Rattle.clock.proofs.wires_of.Given as goal
 
 abbrev pub invariant-loop-c : goal.invariant-loop-c

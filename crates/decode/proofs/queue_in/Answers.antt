@@ -1,7 +1,7 @@
 -- `decode::queue_in` meets its contract. Assumes nothing.
 use Prim.Native.Nat.{◌+◌, ◌*◌}
 use Rattle.std.proofs.Common.{rules}
-use Rattle.laws.specs.ArrayLaws.{made_table}
+use Rattle.laws.specs.Laws.Array.{made_table}
 use Rattle.layout.specs.Bytes.{token_in, queue_in}
 use Rattle.decode.proofs.queue_in.Goals as goal
 

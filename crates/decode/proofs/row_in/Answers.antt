@@ -1,6 +1,6 @@
 -- `decode::row_in` meets its contract. Assumes nothing.
 use Rattle.std.proofs.Common.{rules}
-use Rattle.laws.specs.ArrayLaws.{made_table}
+use Rattle.laws.specs.Laws.Array.{made_table}
 use Rattle.layout.specs.Bytes.{row_record}
 use Rattle.decode.proofs.row_in.Goals as goal
 

@@ -13,4 +13,4 @@ pub returns : goal.returns
 unfolding state_in places_in
 returns c =
     let e = eq-eqb (length c.args.bytes.now) 10692 c.if-bytes-ne-STATE.false in
-    rw (e, c.queues_in.ensures, c.stations_in.ensures, c.marks_in.ensures, c.nodes_in.ensures, c.four_bytes.ensures)
+    rw (e, c.queues_in.ensures, c.stations_in.ensures, c.pending_in.ensures, c.nodes_in.ensures, c.four_bytes.ensures)

@@ -2,7 +2,7 @@
 use Prim.Native.Nat.{◌+◌, ◌*◌}
 use Rattle.layout.specs.Bytes.{station_in}
 use Rattle.std.proofs.Common.{rules}
-use Rattle.laws.specs.ArrayLaws.{made_table}
+use Rattle.laws.specs.Laws.Array.{made_table}
 use Rattle.decode.proofs.stations_in.Goals as goal
 
 pub returns : goal.returns

@@ -1,6 +1,6 @@
 -- `decode::token_in` meets its contract. Assumes nothing.
 use mir.Facts.{to_z-of_z}
-use Rattle.laws.specs.SignedLaws.{told}
+use Rattle.laws.specs.Laws.Signed.{told}
 use Rattle.layout.specs.Bytes.{token_in}
 use Rattle.decode.proofs.token_in.Goals as goal
 

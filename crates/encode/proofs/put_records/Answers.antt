@@ -1,9 +1,9 @@
 -- `encode::put_records` meets its contract. Assumes nothing.
 use Rattle.std.proofs.Common.{arith}
-use Rattle.writer.specs.WriteLaws.{write_none, write_made}
+use Rattle.writer.specs.Laws.Write.{write_none, write_made}
 use mathlib.Core.List.{flat_map}
 use Rattle.layout.specs.Bytes.{station_bytes}
-use Rattle.layout.specs.BytesLaws.{station_long, flat_long}
+use Rattle.layout.specs.Laws.Bytes.{station_long, flat_long}
 use Rattle.encode.proofs.put_records.Goals as goal
 
 pub returns-then-out-records : goal.returns-then-out-records

@@ -1,8 +1,8 @@
 -- `encode::put_state` meets its contract. Assumes nothing.
 use Rattle.std.proofs.Common.{arith}
-use Rattle.writer.specs.WriteLaws.{write_none, write_made}
+use Rattle.writer.specs.Laws.Write.{write_none, write_made}
 use Rattle.layout.specs.Bytes.{state_bytes}
-use Rattle.layout.specs.BytesLaws.{state_long}
+use Rattle.layout.specs.Laws.Bytes.{state_long}
 use Rattle.encode.proofs.put_state.Goals as goal
 
 pub returns-then-out-lt-STATE : goal.returns-then-out-lt-STATE

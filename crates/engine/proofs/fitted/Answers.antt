@@ -1,11 +1,11 @@
 -- `engine::fitted` meets its contract. Assumes nothing.
 use Rattle.std.proofs.Common.{rules, ◌≡◌, sym, ap, ◌∙◌, arith}
-use Rattle.verdict.specs.AcceptedLaws.{accepted}
-use Rattle.refusal.specs.NumberLaws.{number_positive}
+use Rattle.verdict.specs.Laws.Accepted.{accepted}
+use Rattle.refusal.specs.Laws.Number.{number_positive}
 use Rattle.fitting.specs.Fits.{fits}
-use Rattle.fitting.specs.FitsLaws.{fitting}
+use Rattle.fitting.specs.Laws.Fits.{fitting}
 use Rattle.fitting.proofs.Shape.{shaped}
-use Rattle.engine.specs.AnswerLaws.{state-judge, state_21, state_0}
+use Rattle.engine.specs.Laws.Answer.{state-judge, state_21, state_0}
 use Rattle.engine.proofs.fitted.Goals.{After-fits}
 use Rattle.engine.proofs.fitted.Goals as goal
 

@@ -1,11 +1,11 @@
 -- `engine::run` meets its contract. Assumes nothing.
 use Rattle.std.proofs.Common.{◌≡◌, ℕ, ◌≤◌, ◌+◌, length, take, sym, ap, ◌∙◌, arith, length-take}
 use Rattle.image.specs.Image.{nodes}
-use Rattle.refusal.specs.NumberLaws.{number_positive}
+use Rattle.refusal.specs.Laws.Number.{number_positive}
 use Rattle.state.specs.declared.State.{State}
 use Rattle.cycle.specs.Cycle.{after}
-use Rattle.engine.specs.Taken.{TakenTold, taken_told, taken_from}
-use Rattle.engine.specs.AnswerLaws.{run_none, run-made, ran_taken, taken_few}
+use Rattle.engine.specs.Loops.Taken.{TakenTold, taken_told, taken_from}
+use Rattle.engine.specs.Laws.Answer.{run_none, run-made, ran_taken, taken_few}
 use Rattle.engine.proofs.run.Goals.{In-Ok, After-words_taken-taken}
 use Rattle.engine.proofs.run.Goals as goal
 

@@ -7,13 +7,13 @@ use Rattle.laws.specs.Table.{table_over}
 use Rattle.image.specs.Image.{channels}
 use Rattle.netlist.specs.declared.Netlist.{Netlist}
 use Rattle.refusal.specs.Number.{number}
-use Rattle.refusal.specs.NumberLaws.{number_positive}
+use Rattle.refusal.specs.Laws.Number.{number_positive}
 use Rattle.refusal.specs.declared.Refusal.{Refusal}
 use Rattle.state.specs.declared.Refused.{Refused}
 use Rattle.state.specs.declared.State.{State}
 use Rattle.cycle.specs.Cycle.{after, letters_of, values_of}
-use Rattle.engine.specs.Answer.{step_of, step_number}
-use Rattle.engine.specs.AnswerLaws.{number_ok, step-none, step-made}
+use Rattle.engine.specs.Answer.{number_of_step, step_number}
+use Rattle.engine.specs.Laws.Answer.{number_ok, step-none, step-made}
 use Rattle.engine.proofs.step.Goals.{After-map_err}
 use Rattle.engine.proofs.step.Goals as goal
 
@@ -31,7 +31,7 @@ was_ok Q (Ok k) m n e q = ap (λ (x : Result Netlist Refused). Ok (unwrap_or (re
 was_ok Q (Err e) m n k q = absurd (rw q at k)
 
 pub returns-in_err-netlist : goal.returns-in_err-netlist
-unfolding step_of
+unfolding number_of_step
 returns-in_err-netlist c =
     let a = c.args in
     let x = c.in_err-netlist.field-0.0 in
@@ -73,7 +73,7 @@ cycles-requires-clause-words_bound c =
     omega (arith, fits.cycled, (left d n c.in_ok-netlist.was).0)
 
 pub returns : goal.returns
-unfolding step_of after letters_of values_of table_over
+unfolding number_of_step after letters_of values_of table_over
 returns c =
     let a = c.args in
     let n = c.in_ok-netlist.netlist in

@@ -1,6 +1,6 @@
 -- `engine::words_taken` meets its contract. Assumes nothing.
 use Rattle.std.proofs.Common.{◌≡◌, ◌+◌, length, sym, ◌∙◌, arith}
-use Rattle.engine.specs.AnswerLaws.{taken_first, taken_all, taken_22, taken_12, taken_next}
+use Rattle.engine.specs.Laws.Answer.{taken_first, taken_all, taken_22, taken_12, taken_next}
 use Rattle.engine.proofs.words_taken.Goals.{Else-i-room}
 use Rattle.engine.proofs.words_taken.Goals as goal
 

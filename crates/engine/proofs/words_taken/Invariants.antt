@@ -1,6 +1,6 @@
 -- `engine::words_taken`: i words are taken, and then those that the rest gives.
 use Rattle.std.proofs.Common.{◌≡◌, ◌≤◌}
-use Rattle.engine.specs.Taken.{taken_from, taken_after}
+use Rattle.engine.specs.Loops.Taken.{taken_from, taken_after}
 use Rattle.engine.proofs.words_taken.Given as goal
 
 abbrev pub invariant-loop-i : goal.invariant-loop-i

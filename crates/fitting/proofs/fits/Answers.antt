@@ -1,7 +1,7 @@
 -- `fitting::fits` meets its contract. Assumes nothing.
-use Rattle.verdict.specs.AcceptedLaws.{accepted}
+use Rattle.verdict.specs.Laws.Accepted.{accepted}
 use Rattle.fitting.specs.Fits.{cycles_fit}
-use Rattle.fitting.specs.FitsPassesLaws.{passes_fit}
+use Rattle.fitting.specs.Loops.PassesLaws.{passes_fit}
 use Rattle.fitting.proofs.fits.Goals as goal
 
 pub returns : goal.returns

@@ -7,10 +7,10 @@ use native.Mathlib.Omega.{arith}
 use borrow.Author.Tests.{le-ltb}
 use Rattle.laws.specs.Range.{outside}
 use Rattle.image.specs.Image.{nodes, kind}
-use Rattle.verdict.specs.AcceptedLaws.{accepted}
+use Rattle.verdict.specs.Laws.Accepted.{accepted}
 use Rattle.image.specs.Readers.{core_at}
-use Rattle.pearl.specs.KindLaws.{decodes_ok, code-decoded}
-use Rattle.node.specs.KindsLaws.{kinds_none, kinds_more}
+use Rattle.pearl.specs.Laws.Kind.{decodes_ok, kind_byte-decoded}
+use Rattle.node.specs.Laws.Kinds.{kinds_none, kinds_more}
 use Rattle.node.proofs.kinds_of.Goals as goal
 
 pub unwrap-requires : goal.unwrap-requires
@@ -31,7 +31,7 @@ unfolding core_at
 loop-n-preserved c =
     let img = c.args.netlist.image.now in
     let h : c.loop-n.n < nodes img = omega (arith, c.nodes-n-end.ensures.value) in
-    let e = code-decoded c.core.result.kind c.try_from.ensures c.unwrap.ensures in
+    let e = kind_byte-decoded c.core.result.kind c.try_from.ensures c.unwrap.ensures in
     rw (add-one, c.from.ensures)
     (kinds_more img c.loop-n.n c.loop-n.kinds c.unwrap.result (omega (arith, c.nodes-n-end.ensures.few)) c.loop-n.invariant
     (rw c.core.ensures at e))

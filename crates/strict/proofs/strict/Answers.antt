@@ -1,8 +1,8 @@
 -- `strict::strict` meets its contract. Assumes nothing.
 use mathlib.Core.Path.{sym, ap}
-use Rattle.verdict.specs.AcceptedLaws.{accepted}
-use Rattle.strict.specs.DecodedLaws.{take-values}
-use Rattle.strict.specs.AnswerLaws.{written_all}
+use Rattle.verdict.specs.Laws.Accepted.{accepted}
+use Rattle.strict.specs.Loops.DecodedLaws.{take-values}
+use Rattle.strict.specs.Laws.Answer.{written_all}
 use Rattle.strict.proofs.strict.Goals as goal
 
 pub returns-clause-values_after : goal.returns-clause-values_after

@@ -3,7 +3,7 @@ use mathlib.Core.Path.{◌≡◌, ap, ◌∙◌}
 use native.Mathlib.Omega.{arith}
 use lib.ListN.{length, take}
 use Rattle.text.specs.Decimal.{decimal}
-use Rattle.text.specs.DecimalLaws.{digits_decimal, decimal_short}
+use Rattle.text.specs.Laws.Decimal.{digits_decimal, decimal_short}
 use Rattle.text.specs.Lines.{line_text}
 use Rattle.text.proofs.cycle_line.Goals.{After-decimal-count}
 use Rattle.text.proofs.cycle_line.Goals as goal

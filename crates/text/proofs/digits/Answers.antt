@@ -1,6 +1,6 @@
 -- `text::digits` meets its contract. Assumes nothing.
 use native.Mathlib.Omega.{arith}
-use Rattle.text.specs.DecimalLaws.{decimal_log, decimal_short}
+use Rattle.text.specs.Laws.Decimal.{decimal_log, decimal_short}
 use Rattle.text.proofs.digits.Goals as goal
 
 pub returns : goal.returns

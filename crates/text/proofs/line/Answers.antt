@@ -1,7 +1,7 @@
 -- `text::line` meets its contract. Assumes nothing.
 use mathlib.Core.List.{flat_map}
 use native.Mathlib.Omega.{arith}
-use Rattle.text.specs.LinesLaws.{line_none, line_made}
+use Rattle.text.specs.Laws.Lines.{line_none, line_made}
 use Rattle.text.proofs.line.Goals as goal
 
 pub returns-then-room_after-eq0-clause-write_done : goal.returns-then-room_after-eq0-clause-write_done

@@ -4,7 +4,7 @@ use native.Mathlib.Omega.{arith}
 use lib.IntN.{nat_abs}
 use lib.ListN.{length, length-set}
 use mir.Facts.{to_z-of_z}
-use Rattle.text.specs.DecimalLaws.{signed_minus}
+use Rattle.text.specs.Laws.Decimal.{signed_minus}
 use Rattle.text.proofs.put_signed.Goals as goal
 
 pub put_decimal-requires : goal.put_decimal-requires

@@ -4,7 +4,7 @@ use mathlib.Core.List.{flat_map}
 use mathlib.Core.Path.{◌≡◌}
 use Prim.Native.Nat.{◌+◌, ◌*◌}
 use Rattle.std.proofs.Common.{add-one, mul-suc}
-use Rattle.writer.specs.ItemsLaws.{room_more}
+use Rattle.writer.specs.Laws.Items.{room_more}
 use Rattle.text.proofs.room_after.Goals as goal
 
 pub loop-item-init : goal.loop-item-init

@@ -5,7 +5,7 @@ use lib.IntN.{nat_abs}
 use lib.ListN.{length}
 use mir.Facts.{to_z-of_z}
 use Rattle.text.specs.Decimal.{decimal}
-use Rattle.text.specs.DecimalLaws.{signed_minus, signed_plain, signed_short}
+use Rattle.text.specs.Laws.Decimal.{signed_minus, signed_plain, signed_short}
 use Rattle.text.proofs.signed_length.Goals.{After-digits-count}
 use Rattle.text.proofs.signed_length.Goals as goal
 

@@ -1,10 +1,10 @@
 -- `trace::closing_line` meets its contract. Assumes nothing.
 use Rattle.text.specs.Lines.{closing_text}
 use Rattle.writer.specs.Write.{Begins}
-use Rattle.writer.specs.WriteLaws.{written_begins}
+use Rattle.writer.specs.Laws.Write.{written_begins}
 use Rattle.tracer.specs.Trace.{firings_of}
 use Rattle.trace.proofs.closing_line.Goals.{After-written-length}
-use Rattle.tracer.specs.DoneLaws.{closing_made}
+use Rattle.tracer.specs.Laws.Done.{closing_made}
 use Rattle.trace.proofs.closing_line.Goals as goal
 
 begins : (c : After-written-length) → Begins c.closing_line.new.out c.written-length.result (closing_text (firings_of c.args.image.now c.args.state))

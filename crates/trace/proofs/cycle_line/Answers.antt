@@ -1,6 +1,6 @@
 -- `trace::cycle_line` meets its contract. Assumes nothing.
-use Rattle.writer.specs.WriteLaws.{written_begins}
-use Rattle.tracer.specs.DoneLaws.{line_made}
+use Rattle.writer.specs.Laws.Write.{written_begins}
+use Rattle.tracer.specs.Laws.Done.{line_made}
 use Rattle.trace.proofs.cycle_line.Goals as goal
 
 pub invariant_of-result : goal.invariant_of-result

@@ -13,10 +13,10 @@ use Rattle.std.specs.Prelude.{Result, Ok, Err}
 use Rattle.std.specs.Result.{MatchResult}
 use Rattle.std.proofs.Common.{rules}
 use Rattle.cycle.specs.Cycle.{after}
-use Rattle.cycle.specs.Turns.{after_next}
+use Rattle.cycle.specs.Loops.Turns.{after_next}
 use Rattle.trace_input.specs.Input.{words_of}
-use Rattle.trace_input.specs.InputLaws.{length-words, input-accepted}
-use Rattle.tracer.specs.StepsLaws.{step_taken}
+use Rattle.trace_input.specs.Laws.Input.{length-words, input-accepted}
+use Rattle.tracer.specs.Laws.Steps.{step_taken}
 use Rattle.trace.proofs.print_cycles.Goals as goal
 
 -- the state that an answer returns, refused or not

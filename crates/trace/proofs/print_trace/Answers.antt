@@ -1,5 +1,5 @@
 -- `trace::print_trace` meets its contract. Assumes nothing.
-use Rattle.tracer.specs.StepsLaws.{closing_taken}
+use Rattle.tracer.specs.Laws.Steps.{closing_taken}
 use Rattle.trace.proofs.print_trace.Goals as goal
 
 pub closing_line-requires : goal.closing_line-requires

@@ -2,7 +2,7 @@
 use Rattle.refusal.specs.Number.{number}
 use Rattle.text.specs.Lines.{refused_text}
 use Rattle.writer.specs.Write.{Begins}
-use Rattle.writer.specs.WriteLaws.{written_begins}
+use Rattle.writer.specs.Laws.Write.{written_begins}
 use Rattle.trace.proofs.refusal_line.Goals.{After-written-length}
 use Rattle.trace.proofs.refusal_line.Goals as goal
 

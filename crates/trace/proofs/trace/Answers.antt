@@ -1,7 +1,7 @@
 -- `trace::trace` meets its contract. Assumes nothing.
 use mathlib.Core.Path.{sym}
-use Rattle.trace_input.specs.Head.{head_whole}
-use Rattle.trace_input.specs.InputLaws.{image_taken}
+use Rattle.trace_input.specs.Laws.Head.{head_whole}
+use Rattle.trace_input.specs.Laws.Input.{image_taken}
 use Rattle.trace.proofs.trace.Goals as goal
 
 pub print_trace-requires-clause-image_value : goal.print_trace-requires-clause-image_value

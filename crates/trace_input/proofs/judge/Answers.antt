@@ -3,9 +3,9 @@ use mathlib.Core.Path.{◌≡◌}
 use Rattle.std.proofs.Common.{Err, arith, rules}
 use Rattle.std.proofs.lemmas.Bool.Decides.{nat_tests}
 use Rattle.refusal.specs.Number.{number_of}
-use Rattle.refusal.specs.NumberLaws.{number_positive}
+use Rattle.refusal.specs.Laws.Number.{number_positive}
 use Rattle.trace_input.specs.Input.{number_from, input_number}
-use Rattle.trace_input.specs.InputLaws.{image_taken}
+use Rattle.trace_input.specs.Laws.Input.{image_taken}
 use Rattle.trace_input.proofs.judge.Goals.{After-any_above-above}
 use Rattle.trace_input.proofs.judge.Goals as goal
 

@@ -1,6 +1,6 @@
 -- `trace_input::whole_words` meets its contract. Assumes nothing.
 use Rattle.std.proofs.lemmas.List.{length-drop, take_rest}
-use Rattle.trace_input.specs.InputLaws.{tail_words}
+use Rattle.trace_input.specs.Laws.Input.{tail_words}
 use Rattle.trace_input.proofs.whole_words.Goals as goal
 
 pub returns-clause-value : goal.returns-clause-value

@@ -1,7 +1,7 @@
 -- `trace_input::word_at` meets its contract. Assumes nothing.
 use Rattle.std.proofs.Common.{◌≡◌, ◌∙◌, get_or, rules}
 use Rattle.std.proofs.Math.ListN.{replicate}
-use Rattle.trace_input.specs.InputLaws.{word_read}
+use Rattle.trace_input.specs.Laws.Input.{word_read}
 use Rattle.trace_input.proofs.word_at.Goals as goal
 
 pub returns : goal.returns

@@ -1,7 +1,7 @@
 -- `tracer::closing_line` meets its contract. Assumes nothing.
 use Rattle.std.proofs.Common.{◌≡◌, Err, ap, arith, rules}
-use Rattle.refusal.specs.NumberLaws.{number_positive}
-use Rattle.tracer.specs.DoneLaws.{closing_refused, closing_written}
+use Rattle.refusal.specs.Laws.Number.{number_positive}
+use Rattle.tracer.specs.Laws.Done.{closing_refused, closing_written}
 use Rattle.tracer.proofs.closing_line.Goals as goal
 
 pub returns-in_err-netlist-clause-closing_done : goal.returns-in_err-netlist-clause-closing_done

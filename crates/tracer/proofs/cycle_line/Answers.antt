@@ -4,12 +4,12 @@ use Prim.Native.Nat.{◌≤◌}
 use native.Mathlib.Omega.{arith}
 use lib.ListN.{length, take}
 use lib.Seq.{length-take-le}
-use Rattle.laws.specs.TableLaws.{length-table}
+use Rattle.laws.specs.Laws.Table.{length-table}
 use Rattle.refusal.specs.Number.{number}
-use Rattle.refusal.specs.NumberLaws.{number_positive}
+use Rattle.refusal.specs.Laws.Number.{number_positive}
 use Rattle.text.specs.Lines.{line_text}
 use Rattle.tracer.specs.Trace.{cycle_text}
-use Rattle.tracer.specs.DoneLaws.{step-number, step-accepted, step-state, step_text, step_refused, line_refused, line_long, line_written}
+use Rattle.tracer.specs.Laws.Done.{step-number, step-accepted, step-state, step_text, step_refused, line_refused, line_long, line_written}
 use Rattle.tracer.proofs.cycle_line.Goals.{After-readings-row}
 use Rattle.tracer.proofs.cycle_line.Goals as goal
 

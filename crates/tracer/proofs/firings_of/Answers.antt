@@ -1,6 +1,6 @@
 -- `tracer::firings_of` meets its contract. Assumes nothing.
 use Rattle.std.proofs.Common.{rules}
-use Rattle.laws.specs.ArrayLaws.{made_table}
+use Rattle.laws.specs.Laws.Array.{made_table}
 use Rattle.state.specs.State.{node_at, firings_at}
 use Rattle.tracer.proofs.firings_of.Goals as goal
 

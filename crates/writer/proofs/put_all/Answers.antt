@@ -1,6 +1,6 @@
 -- `writer::put_all` meets its contract. Assumes nothing.
 use native.Mathlib.Omega.{arith}
-use Rattle.writer.specs.ItemsLaws.{put_nothing, put_inside, put_item}
+use Rattle.writer.specs.Laws.Items.{put_nothing, put_inside, put_item}
 use Rattle.writer.proofs.put_all.Goals as goal
 
 pub loop-item-init : goal.loop-item-init

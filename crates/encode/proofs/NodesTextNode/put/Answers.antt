@@ -4,9 +4,9 @@ use borrow.Author.Rules.{rules}
 use mir.Syntax.{w32}
 use mir.Val.{SFits}
 use mir.Facts.{to_z-of_z}
-use Rattle.writer.specs.PutLaws.{put-after, put_long}
+use Rattle.writer.specs.Loops.PutLaws.{put-after, put_long}
 use Rattle.layout.specs.Bytes.{node_bytes}
-use Rattle.layout.specs.BytesLaws.{word_long, token_long, node_long}
+use Rattle.layout.specs.Laws.Bytes.{number_long, token_long, node_long}
 use Rattle.encode.proofs.NodesTextNode.put.Goals as goal
 
 pub put-firings-requires : goal.put-firings-requires
@@ -15,7 +15,7 @@ put-firings-requires c = rw token_long (omega (arith, node_long c.args.item))
 pub put-requires : goal.put-requires
 put-requires c =
     let p = c.put-firings.ensures in
-    rw word_long (omega (arith, node_long c.args.item, rw token_long at p.next, put_long p))
+    rw number_long (omega (arith, node_long c.args.item, rw token_long at p.next, put_long p))
 
 pub returns : goal.returns
 unfolding node_bytes

@@ -3,7 +3,7 @@ use mathlib.Core.Path.{◌≡◌}
 use borrow.Author.Rules.{rules}
 use lib.ListN.{length}
 use Rattle.layout.specs.Bytes.{queue_bytes}
-use Rattle.layout.specs.BytesLaws.{tokens_own}
+use Rattle.layout.specs.Laws.Bytes.{tokens_own}
 use Rattle.encode.proofs.QueuesTextQueue.put.Goals as goal
 
 pub put_counted-requires : goal.put_counted-requires

@@ -4,28 +4,28 @@ use Rattle.std.specs.Prelude.{leb, Bool}
 use Rattle.std.proofs.lemmas.Iterator.{YieldsList-from_slice}
 use Rattle.std.proofs.lemmas.Iterator.Search.{all_from_yields_List}
 use Rattle.image.specs.Image.{stations}
-use Rattle.verdict.specs.AcceptedLaws.{channels_few}
-use Rattle.image.specs.Readers.{channel_at}
+use Rattle.verdict.specs.Laws.Accepted.{channels_few}
+use Rattle.image.specs.Readers.{wire_at}
 use Rattle.relay.specs.declared.Station.{Station}
 use Rattle.relay.specs.RowCycle.{no_station}
-use Rattle.state.specs.State.{node_at, mark_at, station_at, queue_at}
+use Rattle.state.specs.State.{node_at, pending_at, station_at, queue_at}
 use Rattle.fitting.specs.Fits.{stations_fit, balanced}
 use Rattle.laws.specs.Below.{sum_below}
-use Rattle.fitting.specs.FitsPasses.{counted, channel_fits}
+use Rattle.fitting.specs.Loops.Passes.{counted, channel_fits}
 use Rattle.fitting.proofs.Listed.{part, counted_part}
 use Rattle.fitting.proofs.passes.channel_fits.Goals as goal
 
 pub returns : goal.returns
-unfolding channel_fits node_at mark_at queue_at station_at stations_fit balanced channel_at
+unfolding channel_fits node_at pending_at queue_at station_at stations_fit balanced wire_at
 returns c =
     let img = c.args.netlist.image.now in
     let all = c.args.state.now.stations in
     let k = c.args.c in
     let at : c.from-at.result ≡ k = search rules in
-    let channel = c.channel-channel.ensures.value in
+    let channel = c.wire-wire.ensures.value in
     let r = c.from.result in
     let same : r ≡ stations img k = search rules in
-    let few : 8 * k + r ≤ length all = search (rules, channels_few img c.args.netlist.accepted, (c.channel-channel.ensures.placed c.requires).stations) in
+    let few : 8 * k + r ≤ length all = search (rules, channels_few img c.args.netlist.accepted, (c.wire-wire.ensures.placed c.requires).stations) in
     let cut : 8 * k + r - 8 * k ≡ r = omega arith in
     let shallow : Station → Bool = λ x. leb x.count 2 in
     let row : c.iter.result.rest.now ≡ take (8 * k + r - 8 * k) (drop (8 * k) all) = search rules in

@@ -2,9 +2,9 @@
 use Rattle.std.proofs.Common.{rules, tests, ◌≡◌, ◌∙◌, refl, arith}
 use Rattle.std.proofs.lemmas.Iterator.{YieldsList-from_range}
 use Rattle.std.proofs.lemmas.Iterator.Search.{all_from_yields_List}
-use Rattle.laws.specs.BelowLaws.{all_range}
+use Rattle.laws.specs.Laws.Below.{all_range}
 use Rattle.image.specs.Image.{channels}
-use Rattle.fitting.specs.FitsPasses.{channel_fits, channels_fit}
+use Rattle.fitting.specs.Loops.Passes.{channel_fits, channels_fit}
 use Rattle.fitting.proofs.passes.channels_fit.Goals as goal
 
 pub returns : goal.returns

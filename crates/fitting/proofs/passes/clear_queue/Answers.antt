@@ -6,7 +6,7 @@ use Rattle.std.proofs.lemmas.Iterator.Adapters.{YieldsList-from_skip}
 use Rattle.std.proofs.lemmas.Iterator.Search.{all_from_yields_List}
 use Rattle.laws.specs.Lists.{zero_from}
 use Rattle.laws.specs.Signed.{is_zero}
-use Rattle.laws.specs.SignedLaws.{zero_bits}
+use Rattle.laws.specs.Laws.Signed.{zero_bits}
 use Rattle.fitting.proofs.Listed.{rest}
 use Rattle.fitting.proofs.passes.clear_queue.Goals as goal
 

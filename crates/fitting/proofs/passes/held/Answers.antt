@@ -3,7 +3,7 @@ use Rattle.std.proofs.Common.{rules, ◌≡◌, ◌<◌, ◌^◌, arith, add-one
 use Rattle.std.specs.Prelude.{length, get_or}
 use Rattle.laws.specs.Below.{sum_below}
 use Rattle.relay.specs.RowCycle.{no_station}
-use Rattle.fitting.specs.FitsPasses.{counted}
+use Rattle.fitting.specs.Loops.Passes.{counted}
 use Rattle.fitting.proofs.passes.held.Goals as goal
 
 pub loop-station-init : goal.loop-station-init

@@ -8,7 +8,7 @@ use Rattle.image.specs.Image.{nodes}
 use Rattle.state.specs.declared.Node.{Node}
 use Rattle.state.specs.State.{no_node, node_at}
 use Rattle.fitting.specs.Fits.{firings_fit, node_clear}
-use Rattle.fitting.specs.FitsPasses.{nodes_fit, empty_node}
+use Rattle.fitting.specs.Loops.Passes.{nodes_fit, empty_node}
 use Rattle.fitting.proofs.Listed.{front, behind}
 use Rattle.fitting.proofs.passes.nodes_fit.Goals as goal
 

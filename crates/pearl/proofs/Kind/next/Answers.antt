@@ -11,8 +11,8 @@ use mir.ValLaws.{sfits_le}
 use Rattle.pearl.specs.declared.Kind.TheVariants.{Choose}
 use Rattle.pearl.specs.Wrap.{wrap}
 use Rattle.pearl.specs.Next.{halve, larger, choose, exact, next_value}
-use Rattle.pearl.specs.NextLaws.{larger-int_max}
-use Rattle.pearl.specs.WrapLaws.{wrap-fits, wrapping_sum, wrapping_difference, wrapping_negation}
+use Rattle.pearl.specs.Laws.Next.{larger-int_max}
+use Rattle.pearl.specs.Laws.Wrap.{wrap-fits, wrapping_sum, wrapping_difference, wrapping_negation}
 use Rattle.pearl.proofs.Kind.next.Goals as goal
 
 pub returns-in-Count : goal.returns-in-Count

@@ -5,8 +5,8 @@ use native.Mathlib.Numerals.{add-one}
 use native.Mathlib.Omega.{arith}
 use lib.ListN.{length}
 use Rattle.laws.specs.Table.{table, table_over}
-use Rattle.laws.specs.TableLaws.{over_set}
-use Rattle.relay.specs.RowCycleLaws.{cycle_turn}
+use Rattle.laws.specs.Laws.Table.{over_set}
+use Rattle.relay.specs.Laws.RowCycle.{cycle_turn}
 use Rattle.relay.specs.RowCycle.{station_after}
 use borrow.Author.Rules.{rules}
 use Rattle.relay.proofs.Row.cycle.Goals as goal

@@ -3,7 +3,7 @@ use mathlib.Core.Path.{◌≡◌, ◌∙◌}
 use native.Mathlib.Numerals.{add-one}
 use borrow.Author.Rules.{rules}
 use lib.ListN.{length}
-use Rattle.relay.specs.RowCycleLaws.{station_turn}
+use Rattle.relay.specs.Laws.RowCycle.{station_turn}
 use Rattle.relay.proofs.Row.station_after.Goals as goal
 
 pub returns : goal.returns

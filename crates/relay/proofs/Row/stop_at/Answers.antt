@@ -2,9 +2,9 @@
 use mathlib.Core.Path.{◌≡◌, sym}
 use borrow.Author.Rules.{rules}
 use lib.ListN.{length}
-use Rattle.relay.specs.RowLaws.{stopped_inside, stopped_end}
+use Rattle.relay.specs.Laws.Row.{stopped_inside, stopped_end}
 use Rattle.relay.specs.RowCycle.{places}
-use Rattle.relay.specs.RowCycleLaws.{place_at, length-places}
+use Rattle.relay.specs.Laws.RowCycle.{place_at, length-places}
 use Rattle.relay.proofs.Row.stop_at.Goals as goal
 
 pub returns-then-j-n : goal.returns-then-j-n

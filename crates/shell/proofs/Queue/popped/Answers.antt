@@ -1,6 +1,6 @@
 -- `shell::Queue::popped` meets its contract. Assumes nothing.
 use Rattle.std.proofs.Common.{◌≡◌, length, rules}
-use Rattle.shell.specs.QueueLaws.{popped_is}
+use Rattle.shell.specs.Laws.Queue.{popped_is}
 use Rattle.shell.proofs.Queue.popped.Goals as goal
 
 pub returns : goal.returns

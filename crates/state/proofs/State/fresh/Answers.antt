@@ -1,9 +1,9 @@
 -- `state::State::fresh` meets its contract. Assumes nothing.
 use Rattle.std.proofs.Common.{◌∙◌, ap, arith, sym}
 use Rattle.refusal.specs.Number.{number}
-use Rattle.refusal.specs.NumberLaws.{number_positive}
+use Rattle.refusal.specs.Laws.Number.{number_positive}
 use Rattle.state.specs.Fresh.{fresh_state}
-use Rattle.state.specs.FreshLaws.{fresh_refused, fresh-made}
+use Rattle.state.specs.Laws.Fresh.{fresh_refused, fresh-made}
 use Rattle.state.proofs.State.fresh.Goals as goal
 
 pub returns-in-Ok : goal.returns-in-Ok

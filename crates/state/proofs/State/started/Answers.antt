@@ -10,8 +10,8 @@ use mir.Facts.{to_z-of_z}
 use Rattle.image.specs.declared.Core.{Core}
 use Rattle.image.specs.Image.{nodes, channels}
 use Rattle.image.specs.Readers.{core_at}
-use Rattle.verdict.specs.AcceptedLaws.{accepted}
-use Rattle.state.specs.FreshLaws.{filled_none, filled_node, filled_mark, filled_all}
+use Rattle.verdict.specs.Laws.Accepted.{accepted}
+use Rattle.state.specs.Laws.Fresh.{filled_none, filled_node, filled_pending, filled_all}
 use Rattle.state.proofs.State.started.Goals as goal
 
 pub loop-n-init : goal.loop-n-init
@@ -33,7 +33,7 @@ pub loop-c-preserved : goal.loop-c-preserved
 loop-c-preserved c =
     let img = c.args.netlist.image.now in
     let there : c.loop-c.c < 96 = omega (arith, c.channels-channels.ensures.few) in
-    (omega arith, rw add-one (filled_mark img (nodes img) c.loop-c.c there c.loop-c.state c.loop-c.invariant.1))
+    (omega arith, rw add-one (filled_pending img (nodes img) c.loop-c.c there c.loop-c.state c.loop-c.invariant.1))
 
 pub returns : goal.returns
 returns c =

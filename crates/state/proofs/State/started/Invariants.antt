@@ -2,7 +2,7 @@
 use mathlib.Core.Path.{◌≡◌}
 use Prim.Native.Nat.{◌≤◌}
 use Rattle.image.specs.Image.{nodes}
-use Rattle.state.specs.FreshLaws.{filled}
+use Rattle.state.specs.Laws.Fresh.{filled}
 use Rattle.state.proofs.State.started.Given as goal
 
 abbrev pub invariant-loop-n : goal.invariant-loop-n

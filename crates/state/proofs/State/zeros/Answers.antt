@@ -1,5 +1,5 @@
 -- `state::State::zeros` meets its contract. Assumes nothing.
-use Rattle.state.specs.FreshLaws.{zeros_of}
+use Rattle.state.specs.Laws.Fresh.{zeros_of}
 use Rattle.state.proofs.State.zeros.Goals as goal
 
 pub returns : goal.returns

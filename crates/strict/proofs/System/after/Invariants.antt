@@ -1,7 +1,7 @@
 -- `strict::System::after`: the values of the nodes below n are the next ones.
 use mathlib.Core.Path.{◌≡◌}
 use Rattle.laws.specs.Table.{table_over}
-use Rattle.strict.specs.System.{value_after}
+use Rattle.strict.specs.Loops.System.{value_after}
 use Rattle.strict.proofs.System.after.Given as goal
 
 abbrev pub invariant-loop-n : goal.invariant-loop-n

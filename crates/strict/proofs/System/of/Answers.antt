@@ -1,7 +1,7 @@
 -- `strict::System::of` meets its contract. Assumes nothing.
 use native.Mathlib.Omega.{arith}
-use Rattle.verdict.specs.AcceptedLaws.{accepted}
-use Rattle.strict.specs.DecodedLaws.{feeders-within}
+use Rattle.verdict.specs.Laws.Accepted.{accepted}
+use Rattle.strict.specs.Loops.DecodedLaws.{feeders-within}
 use Rattle.strict.proofs.System.of.Goals as goal
 
 pub invariant_of-result : goal.invariant_of-result

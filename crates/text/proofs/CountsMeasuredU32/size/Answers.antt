@@ -1,6 +1,6 @@
 -- How many bytes a count takes. Assumes nothing.
 use native.Mathlib.Omega.{arith}
-use Rattle.text.specs.DecimalLaws.{decimal_short}
+use Rattle.text.specs.Laws.Decimal.{decimal_short}
 use Rattle.text.specs.Lines.{count_text}
 use Rattle.text.proofs.CountsMeasuredU32.size.Goals as goal
 

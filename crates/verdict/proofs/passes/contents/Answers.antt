@@ -3,19 +3,19 @@ use Rattle.std.proofs.Common.{rules, tests, Bool, true, false, List, ℕ, arith,
 use Rattle.std.proofs.lemmas.Iterator.{YieldsList-from_range}
 use Rattle.std.proofs.lemmas.Iterator.Search.{any_from_yields_List}
 use Rattle.laws.specs.Below.{any_below}
-use Rattle.laws.specs.BelowLaws.{any_range}
+use Rattle.laws.specs.Laws.Below.{any_range}
 use Rattle.laws.specs.Choice.{◌if◌else◌}
-use Rattle.laws.specs.ChoiceLaws.{past}
+use Rattle.laws.specs.Laws.Choice.{past}
 use Rattle.refusal.specs.declared.Refusal.{Refusal}
 use Rattle.refusal.specs.Number.{number}
-use Rattle.refusal.specs.NumberLaws.{number_positive}
+use Rattle.refusal.specs.Laws.Number.{number_positive}
 use Rattle.image.specs.Image.{nodes, channels}
 use Rattle.verdict.specs.Judge.{judge, bad_kind, bad_wire, bad_port}
-use Rattle.verdict.specs.JudgeLaws.{sizes_ok}
-use Rattle.verdict.specs.Passes.{depth_number, marks_below, twice_below, misses}
-use Rattle.verdict.specs.Clear.{Sized}
-use Rattle.image.specs.Ports.{Wired}
-use Rattle.verdict.specs.PassesLaws.{wired, twice_is, misses_is}
+use Rattle.verdict.specs.Laws.Judge.{sizes_ok}
+use Rattle.verdict.specs.Loops.Passes.{depth_number, fed_below, twice_below, misses}
+use Rattle.verdict.specs.Laws.Clear.{Sized}
+use Rattle.image.specs.Loops.Ports.{Wired}
+use Rattle.verdict.specs.Loops.PassesLaws.{wired, twice_is, misses_is}
 use Rattle.verdict.proofs.passes.contents.Goals.{After-any, After-any-2, After-any-3, After-any-4}
 use Rattle.verdict.proofs.passes.contents.Goals as goal
 
@@ -46,7 +46,7 @@ module _ (img : List ℕ) (sized : Sized img) (no_4 : any_below (bad_kind img) (
   places = wired img (channels img) few no_5 no_6
 
   -- 7, 8 and the depths are left, and the tests for 7 and 8 are the definition's
-  left : (ports : List Bool) → ports ≡ marks_below img (channels img)
+  left : (ports : List Bool) → ports ≡ fed_below img (channels img)
       → judge img ≡ (7 if twice_below img (channels img) else 8 if any_below (misses img ports) (nodes img) else depth_number img)
   unfolding judge depth_number
   left ports e =
@@ -99,7 +99,7 @@ pub returns-then-any-4 : goal.returns-then-any-4
 returns-then-any-4 c =
     let a = goal.at.returns-then-any-4 c in
     rw (
-      left c.args.image.now c.requires (four a.After-any ∙ c.if-any.false) (five a.After-any-2 ∙ c.if-any-2.false) (six a.After-any-3 ∙ c.if-any-3.false) _ c.in_ok-ports.ensures.marks,
+      left c.args.image.now c.requires (four a.After-any ∙ c.if-any.false) (five a.After-any-2 ∙ c.if-any-2.false) (six a.After-any-3 ∙ c.if-any-3.false) _ c.in_ok-ports.ensures.fed,
       (past 6 0 _ (sym c.in_ok-ports.ensures.number)).0,
       eight a.After-any-4 ∙ c.if-any-4.true,
     )
@@ -108,7 +108,7 @@ pub returns : goal.returns
 returns c =
     let a = goal.at.returns c in
     rw (
-      left c.args.image.now c.requires (four a.After-any ∙ c.if-any.false) (five a.After-any-2 ∙ c.if-any-2.false) (six a.After-any-3 ∙ c.if-any-3.false) _ c.in_ok-ports.ensures.marks,
+      left c.args.image.now c.requires (four a.After-any ∙ c.if-any.false) (five a.After-any-2 ∙ c.if-any-2.false) (six a.After-any-3 ∙ c.if-any-3.false) _ c.in_ok-ports.ensures.fed,
       (past 6 0 _ (sym c.in_ok-ports.ensures.number)).0,
       eight a.After-any-4 ∙ c.if-any-4.false,
     )

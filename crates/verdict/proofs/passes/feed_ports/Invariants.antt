@@ -1,7 +1,7 @@
 -- `netlist::passes::feed_ports`: no channel so far found its port marked, and the marks are the definition's below i.
 use Rattle.std.proofs.Common.{◌≡◌, ◌≤◌, false}
-use Rattle.verdict.specs.Passes.{marks_below, twice_below}
+use Rattle.verdict.specs.Loops.Passes.{fed_below, twice_below}
 use Rattle.verdict.proofs.passes.feed_ports.Given as goal
 
 abbrev pub invariant-loop-i : goal.invariant-loop-i
-invariant-loop-i l = (l.i ≤ l.c) × (twice_below l.image l.i ≡ false) × (l.ports ≡ marks_below l.image l.i)
+invariant-loop-i l = (l.i ≤ l.c) × (twice_below l.image l.i ≡ false) × (l.ports ≡ fed_below l.image l.i)

@@ -2,10 +2,10 @@
 use Rattle.std.proofs.Common.{◌∙◌, not, false, get_or, refl, rules, tests, arith}
 use Rattle.std.proofs.lemmas.Iterator.{YieldsList-from_range}
 use Rattle.std.proofs.lemmas.Iterator.Search.{any_from_yields_List}
-use Rattle.laws.specs.BelowLaws.{any_range}
+use Rattle.laws.specs.Laws.Below.{any_range}
 use Rattle.image.specs.Image.{kind, inputs}
-use Rattle.verdict.specs.Passes.{misses}
-use Rattle.image.specs.Ports.{port_place}
+use Rattle.verdict.specs.Loops.Passes.{misses}
+use Rattle.image.specs.Loops.Ports.{port_place}
 use Rattle.verdict.proofs.passes.misses_port.Goals as goal
 
 pub returns : goal.returns

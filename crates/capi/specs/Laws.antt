@@ -1,0 +1,3 @@
+-- What others use in place of the definitions' texts.
+pub mod Calls
+pub mod Records

@@ -1,0 +1,191 @@
+-- What each way out of the benches on bytes has done. Assumes nothing.
+use Rattle.std.specs.Prelude.{Bool, false, ◌≡◌, refl, ℕ, ◌+◌, ◌*◌, ◌-◌, ◌≤◌, ◌<◌, eqb, ltb, ℤ, length, get_or, take, drop, Result, Ok, Err}
+use Rattle.std.specs.Result.{is_ok}
+use Rattle.std.proofs.Math.Bool.{true}
+use Rattle.std.proofs.Common.{true≢false, ◌∙◌, arith, length-append, take_at}
+use mathlib.Core.List.{List, [], ◌∷◌, ◌++◌, flat_map}
+use Rattle.std.proofs.Math.Logic.{⊎_elim}
+use Rattle.std.proofs.Math.Path.{sym, ap}
+use Rattle.std.proofs.Math.Decide.{ℕ_discrete}
+use borrow.Author.Tests.{eqb-true, eqb-false, ne_eqb, leb-true, ltb-false, lt-ltb, le-ltb}
+use Rattle.std.proofs.Math.Dec.{leb}
+use Rattle.laws.specs.Laws.Below.{all_at}
+use Rattle.laws.specs.Laws.Cases.{true_or_false, lt-or-ge, or_left, or_right}
+use Rattle.laws.specs.Table.{table}
+use Rattle.laws.specs.Laws.Table.{length-table, table_at, take-table}
+use Rattle.relay.specs.declared.Row.{Row}
+use Rattle.relay.specs.declared.Station.{Station}
+use Rattle.relay.specs.RowCycle.{no_station}
+use Rattle.relay.specs.Link.{Link}
+use Rattle.std.specs.Bool.{then_some}
+use Rattle.bench.specs.declared.Answer.{Answer}
+use Rattle.refusal.specs.declared.Refusal.{Refusal}
+use Rattle.bench.specs.Bench.{Told, told, fits, bench_number, refusal, reply, bench_answer, bench_after}
+use Rattle.bench.proofs.BenchLaws.{refused_number, bench_long, length_bench, station-done}
+use Rattle.bench.specs.ByValue.{BenchedTold, station_benched, row_benched}
+use Rattle.bench.proofs.Kept.{accepted_long, accepted-fits}
+use Rattle.layout.specs.Bytes.{station_bytes, no_record, record_in, row_record, record_count, row_in}
+use Rattle.layout.specs.Laws.Bytes.{all_stored, flat_long, station_long}
+use Rattle.writer.specs.Write.{WriteDone}
+use Rattle.writer.specs.Laws.Write.{write_done}
+use Rattle.capi.specs.Calls.{BenchCall}
+
+-- a bench answers its number
+answer-number : (row : List Station) (link : Link) (stop : Bool) → (bench_answer row link stop).number ≡ bench_number row
+unfolding bench_answer reply refusal
+answer-number row link stop =
+    ⊎_elim
+    (λ (q : eqb (bench_number row) 0 ≡ true). rw q (sym (eqb-true (bench_number row) 0 q)))
+    (λ (q : eqb (bench_number row) 0 ≡ false). rw q)
+    (true_or_false (eqb (bench_number row) 0))
+
+-- what is no record fits no bench
+no_record-fits : fits no_record ≡ false
+unfolding fits no_record
+no_record-fits = refl
+
+-- a bench that is not refused, and one that is
+pub ok_number : (answer : Result Answer Refusal) → is_ok answer ≡ true → (told answer).number ≡ 0
+ok_number (Ok a) e = refl
+ok_number (Err r) e = absurd (true≢false (sym e))
+
+pub err-number : (answer : Result Answer Refusal) → is_ok answer ≡ false → (told answer).number ≡ 0 → ⊥
+err-number answer e z =
+    let q : eqb 0 0 ≡ false = rw z at (refused_number answer e) in
+    absurd (true≢false q)
+
+-- what C is told of a call
+pub told_call :
+    (row : List Station) (bytes : List ℕ) (valid : Bool) (value : ℤ) (stop : Bool) (left : List ℕ) {t u : Told} → u ≡ t
+    → BenchCall row bytes valid value stop t.number t.letter t.value t.taken left
+    → BenchCall row bytes valid value stop u.number u.letter u.value u.taken left
+told_call row bytes valid value stop left e call = rw e call
+
+-- records over the bytes of as many are all of them
+records-left :
+    (records : List Station) {bytes left : List ℕ} {written : Result ℕ Refusal} → WriteDone (flat_map station_bytes records) bytes written left
+    → length bytes ≡ 9 * length records → left ≡ flat_map station_bytes records
+records-left records {bytes} w e =
+    let text = flat_map station_bytes records in
+    let long = flat_long station_bytes 9 station_long records in
+    all_stored bytes text (length text) (omega (arith, long, e)) (write_done text bytes w (omega (arith, long, e))).1
+
+-- ---- a station
+module _
+    (bytes : List ℕ) (valid : Bool) (value : ℤ) (stop : Bool) {b : BenchedTold Station} (d : b ≡ station_benched (record_in bytes) (then_some valid value) stop) where
+  abbrev row : List Station
+  row = record_in bytes ∷ []
+
+  answered : b.answer ≡ bench_answer row (then_some valid value) stop
+  answered = ap (λ (x : BenchedTold Station). x.answer) d ∙ (station-done (record_in bytes) (then_some valid value) stop).answered
+
+  after : b.after ∷ [] ≡ bench_after row (then_some valid value) stop
+  after = ap (λ (x : BenchedTold Station). x.after ∷ []) d ∙ (station-done (record_in bytes) (then_some valid value) stop).left
+
+  record_sized : b.answer.number ≡ 0 → length bytes ≡ 9
+  unfolding record_in
+  record_sized z = at (ℕ_discrete (length bytes) 9)
+    where
+      number : bench_number row ≡ 0
+      number = sym (answer-number row (then_some valid value) stop) ∙ sym (ap (λ (x : Told). x.number) answered) ∙ z
+
+      at : Dec (length bytes ≡ 9) → length bytes ≡ 9
+      at (yes e) = e
+      at (no n) =
+          let f : fits (record_in bytes) ≡ true = all_at (λ i. fits (get_or row i no_station)) 0 1 (omega arith) (accepted-fits row number) in
+          absurd (true≢false (sym (rw (ne_eqb (length bytes) 9 n) at f) ∙ no_record-fits))
+
+  pub station-called :
+      {written : Result ℕ Refusal} {left : List ℕ} → b.answer.number ≡ 0 → WriteDone (flat_map station_bytes (b.after ∷ [])) bytes written left
+      → BenchCall row bytes valid value stop b.answer.number b.answer.letter b.answer.value b.answer.taken left
+  station-called z w = record { answered = answered; changed = records-left (b.after ∷ []) w (record_sized z) ∙ rw (z, ← after) }
+
+  pub station_refused :
+      (b.answer.number ≡ 0 → ⊥) → BenchCall row bytes valid value stop b.answer.number b.answer.letter b.answer.value
+      b.answer.taken bytes
+  station_refused n = record { answered = answered; changed = rw (ne_eqb b.answer.number 0 n) }
+
+-- ---- a row
+module _ (bytes : List ℕ) where
+  length-row : length (row_in bytes) ≡ record_count bytes
+  unfolding row_in
+  length-row = length-table (row_record bytes) (record_count bytes)
+
+  module _ (accepted : bench_number (row_in bytes) ≡ 0) where
+    -- a row that is accepted has 1 to 8 records
+    row_few : (record_count bytes ≡ 0 → ⊥) × (record_count bytes ≤ 8)
+    row_few =
+        let count = record_count bytes in
+        let q = rw length-row at (accepted_long (row_in bytes) accepted) in
+        (eqb-false count 0 (or_left (eqb count 0) (ltb 8 count) q), ltb-false 8 count (or_right (eqb count 0) (ltb 8 count) q))
+
+    -- each of them whole
+    record_whole : (i : ℕ) → i < record_count bytes → 9 * i + 9 ≤ length bytes
+    unfolding row_in row_record
+    record_whole i h =
+        let f : fits (get_or (row_in bytes) i no_station) ≡ true =
+        all_at (λ k. fits (get_or (row_in bytes) k no_station)) i (length (row_in bytes)) (rw length-row h) (accepted-fits (row_in bytes) accepted) in
+        let g : fits (row_record bytes i) ≡ true = rw (table_at (row_record bytes) (record_count bytes) i no_station h) at f in
+        ⊎_elim
+        (λ (q : leb (9 * i + 9) (length bytes) ≡ true). leb-true (9 * i + 9) (length bytes) q)
+        (λ (q : leb (9 * i + 9) (length bytes) ≡ false). absurd (true≢false (sym (rw q at g) ∙ no_record-fits)))
+        (true_or_false (leb (9 * i + 9) (length bytes)))
+
+    -- and they are all of its bytes
+    row-whole : length bytes ≡ 9 * record_count bytes
+    unfolding record_count
+    row-whole = omega (arith, record_whole (record_count bytes - 1) (omega (arith, row_few.0)), row_few.0)
+
+module _
+    (bytes : List ℕ) (row : Row)
+    (r : row.stations ≡ table (row_record bytes) 8) (valid : Bool) (value : ℤ)
+    (stop : Bool)
+    {b : BenchedTold Row} (d : b ≡ row_benched row (record_count bytes) (then_some valid value) stop) where
+  abbrev n : ℕ
+  n = record_count bytes
+
+  first_few : n ≤ 8 → take n row.stations ≡ row_in bytes
+  unfolding row_in
+  first_few h = ap (take n) r ∙ take-table (row_record bytes) n 8 h
+
+  row-answered : b.answer ≡ bench_answer (row_in bytes) (then_some valid value) stop
+  unfolding row_benched
+  row-answered =
+      ⊎_elim
+      (λ (h : 8 < n).
+      ap (λ (x : BenchedTold Row). x.answer) d ∙ rw (lt-ltb 8 n h) (bench_long (row_in bytes) (then_some valid value) stop (rw (length-row bytes) h)).answered)
+      (λ (h : n ≤ 8). ap (λ (x : BenchedTold Row). x.answer) d ∙ rw (le-ltb 8 n h, first_few h))
+      (lt-or-ge 8 n)
+
+  module _ (z : b.answer.number ≡ 0) where
+    accepted-row : bench_number (row_in bytes) ≡ 0
+    accepted-row = sym (answer-number (row_in bytes) (then_some valid value) stop) ∙ sym (ap (λ (x : Told). x.number) row-answered) ∙ z
+
+    pub row_sized : n ≤ 8
+    row_sized = (row_few bytes accepted-row).1
+
+    -- the first n records are the row after the bench
+    abbrev after-row : List Station
+    after-row = bench_after (row_in bytes) (then_some valid value) stop
+
+    stations-after : b.after.stations ≡ after-row ++ drop n row.stations
+    unfolding row_benched
+    stations-after = ap (λ (x : BenchedTold Row). x.after.stations) d ∙ rw (le-ltb 8 n row_sized, first_few row_sized)
+
+    after_long : length after-row ≡ n
+    after_long = length_bench (row_in bytes) (then_some valid value) stop ∙ length-row bytes
+
+    records-after : take n b.after.stations ≡ after-row
+    records-after = rw stations-after (take_at after-row (drop n row.stations) n after_long)
+
+    pub row-called :
+        {written : Result ℕ Refusal} {left : List ℕ} → WriteDone (flat_map station_bytes (take n b.after.stations)) bytes written left
+        → BenchCall (row_in bytes) bytes valid value stop b.answer.number b.answer.letter b.answer.value b.answer.taken left
+    row-called w =
+        let l = records-left after-row (rw records-after at w) (row-whole bytes accepted-row ∙ ap (λ k. 9 * k) (sym after_long)) in
+        record { answered = row-answered; changed = l ∙ rw z }
+
+  pub row_refused :
+      (b.answer.number ≡ 0 → ⊥)
+      → BenchCall (row_in bytes) bytes valid value stop b.answer.number b.answer.letter b.answer.value b.answer.taken bytes
+  row_refused h = record { answered = row-answered; changed = rw (ne_eqb b.answer.number 0 h) }

@@ -1,0 +1,5 @@
+-- What others use in place of the definitions' texts.
+pub mod Cycle
+pub mod Kept
+pub mod Counters
+pub mod Counting

@@ -1,0 +1,4 @@
+-- What only loops hold.
+pub mod Parts
+pub mod PartsLaws
+pub mod Turns

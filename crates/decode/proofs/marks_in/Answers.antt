@@ -1,9 +1,0 @@
--- `decode::marks_in` meets its contract. Assumes nothing.
-use Prim.Native.Nat.{◌+◌}
-use lib.ListN.{get_or}
-use Rattle.std.proofs.Common.{rules}
-use Rattle.laws.specs.ArrayLaws.{made_table}
-use Rattle.decode.proofs.marks_in.Goals as goal
-
-pub returns : goal.returns
-returns c = made_table (λ k. get_or c.args.bytes.now (516 + k) 0) c.from_fn.ensures.items (λ i y q l called. search rules)

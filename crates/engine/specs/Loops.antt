@@ -1,0 +1,2 @@
+-- What only loops hold.
+pub mod Taken

@@ -1,0 +1,3 @@
+-- What only loops hold.
+pub mod Ports
+pub mod PortsLaws

@@ -1,0 +1,126 @@
+-- Laws of bytes: what the writers and the readers do part by part. Assumes nothing.
+use Rattle.std.specs.Prelude.{◌≡◌, refl, ℕ, ◌+◌, ◌*◌, ◌^◌, ◌<◌, ◌≤◌, ℤ, pos, negsuc, length, get_or, drop}
+use Rattle.std.proofs.Common.{sym, ◌∙◌, drop_of_length-le}
+use mathlib.Core.List.{List, [], ◌∷◌, ◌++◌, append-nil, flat_map}
+use native.Mathlib.Omega.{arith}
+use Rattle.std.proofs.Math.ListN.{length-append}
+use Rattle.std.specs.Int.Signed.{mag}
+use Rattle.std.specs.Int.{w32}
+use Rattle.std.proofs.Common.{of_z}
+use Rattle.laws.specs.Table.{table}
+use Rattle.laws.specs.Laws.Table.{length-table, table_own}
+use Rattle.writer.specs.Loops.Put.{Put}
+use Rattle.writer.specs.Laws.Items.{flat_own}
+use Rattle.writer.specs.Loops.PutLaws.{put-after, put_long}
+use Rattle.relay.specs.declared.Station.{Station}
+use Rattle.relay.specs.RowCycle.{no_station}
+use Rattle.shell.specs.declared.Queue.{Queue}
+use Rattle.state.specs.declared.Node.{Node}
+use Rattle.state.specs.declared.State.{State}
+use Rattle.state.specs.State.{no_node, no_queue, node_at, pending_at, queue_at}
+use Rattle.layout.specs.Bytes.{each, number_bytes, bits_of, token_bytes, node_bytes, station_bytes, queue_bytes, state_bytes, state_length}
+
+-- ---- the bits of a token
+pub bits_few : (z : ℤ) → mag z < 2 ^ 31 → bits_of z < 2 ^ 32
+unfolding bits_of
+bits_few (pos n) h = let l : n < 2 ^ 31 = h in omega arith
+bits_few (negsuc n) h = omega arith
+
+-- as the machine has them
+pub bits_same : (z : ℤ) → of_z w32 z ≡ bits_of z
+unfolding bits_of
+bits_same (pos n) = refl
+bits_same (negsuc n) = refl
+
+-- ---- how many bytes each takes
+module _ {A : Type 0} (f : A → List ℕ) (w : ℕ) (long : (x : A) → length (f x) ≡ w) where
+  pub flat_long : (l : List A) → length (flat_map f l) ≡ w * length l
+  unfolding flat_map
+  flat_long [] = omega arith
+  flat_long (x ∷ l) = length-append (f x) (flat_map f l) ∙ rw (long x, flat_long l) (omega arith)
+
+  pub each_long : (g : ℕ → A) (n : ℕ) → length (each f g n) ≡ w * n
+  each_long g n = flat_long (table g n) ∙ rw (length-table g n)
+
+  -- where a loop stands after n of them
+  pub each_end : (g : ℕ → A) (n : ℕ) {at end : ℕ} {old new : List ℕ} → Put (each f g n) at old new end → end ≡ at + w * n
+  each_end g n p = p.next ∙ rw (each_long g n)
+
+  -- where a list of n of them ends
+  pub end_all :
+      (l : List A) {n : ℕ} → length l ≡ n → {at end : ℕ} {old new : List ℕ} → Put (flat_map f l) at old new end
+      → (end ≡ at + w * n) × (length new ≡ length old)
+  end_all l e p = (p.next ∙ rw (flat_long l, e), put_long p)
+
+-- a list of n elements, and its elements read one by one
+pub each_own :
+    {A : Type 0} (f : A → List ℕ) (l : List A) (d : A) {n : ℕ} → length l ≡ n → {at end : ℕ} {old new : List ℕ}
+    → Put (flat_map f l) at old new end → Put (each f (λ i. get_or l i d) n) at old new end
+each_own f l d e p = rw (← e, flat_own f l d) p
+
+-- so of the tokens of a station or a queue
+pub tokens_own : (tokens : List ℤ) {n : ℕ} → length tokens ≡ n → flat_map token_bytes tokens ≡ each token_bytes (λ i. get_or tokens i (pos 0)) n
+tokens_own tokens e = rw (← e) (sym (flat_own token_bytes tokens (pos 0)))
+
+pub number_long : (n : ℕ) → length (number_bytes n) ≡ 4
+unfolding number_bytes
+number_long n = refl
+
+pub end_number : (n : ℕ) {i : ℕ} {old new : List ℕ} → Put (number_bytes n) 0 old new i → (i ≡ 4) × (length new ≡ length old)
+end_number n p = (omega (arith, p.next, number_long n), put_long p)
+
+pub token_long : (z : ℤ) → length (token_bytes z) ≡ 4
+unfolding token_bytes
+token_long z = number_long (bits_of z)
+
+pub node_long : (n : Node) → length (node_bytes n) ≡ 8
+unfolding node_bytes
+node_long n = length-append (token_bytes n.value) (number_bytes n.firings) ∙ rw (token_long n.value, number_long n.firings)
+
+pub station_long : (s : Station) → length (station_bytes s) ≡ 9
+unfolding station_bytes
+station_long s =
+    length-append (each token_bytes (λ i. get_or s.tokens i (pos 0)) 2) (s.count ∷ [])
+    ∙ rw (each_long token_bytes 4 token_long (λ i. get_or s.tokens i (pos 0)) 2)
+
+pub queue_long : (q : Queue) → length (queue_bytes q) ≡ 33
+unfolding queue_bytes
+queue_long q =
+    length-append (each token_bytes (λ i. get_or q.tokens i (pos 0)) 8) (q.count ∷ [])
+    ∙ rw (each_long token_bytes 4 token_long (λ i. get_or q.tokens i (pos 0)) 8)
+
+-- what is stored over as many bytes, or fewer, is all of them
+pub all_stored : (bytes text : List ℕ) {left : List ℕ} (n : ℕ) → length bytes ≤ n → left ≡ text ++ drop n bytes → left ≡ text
+all_stored bytes text n h q = q ∙ rw (drop_of_length-le bytes h, append-nil)
+
+-- ---- a state, part by part
+pub state_long : (s : State) → length (state_bytes s) ≡ state_length
+unfolding state_bytes
+state_long s =
+    simp (
+      length-append,
+      number_long,
+      each_long node_bytes 8 node_long,
+      length-table,
+      each_long station_bytes 9 station_long,
+      each_long queue_bytes 33 queue_long,
+    ) refl
+
+-- where its marks end
+pub end_pending :
+    (s : State) {i j k : ℕ} {a b c d : List ℕ} → length s.nodes ≡ 64 → length s.pending ≡ 96
+    → Put (number_bytes s.cycles) 0 a b i → Put (flat_map node_bytes s.nodes) i b c j → Put s.pending j c d k
+    → (k ≡ 612) × (length d ≡ length a)
+end_pending s nodes pending p q r =
+    let first = end_number s.cycles p in
+    let second = end_all node_bytes 8 node_long s.nodes nodes q in
+    (omega (arith, first, second, r.next, pending), omega (arith, first, second, put_long r))
+
+pub state-put :
+    (s : State) {i j k m end : ℕ} {a b c d e f : List ℕ} → length s.pending ≡ 96
+    → Put (number_bytes s.cycles) 0 a b i → Put (each node_bytes (λ n. get_or s.nodes n no_node) 64) i b c j → Put s.pending j c d k
+    → Put (each station_bytes (λ n. get_or s.stations n no_station) 768) k d e m → Put (each queue_bytes (λ n. get_or s.queues n no_queue) 96) m e f end
+    → Put (state_bytes s) 0 a f end
+unfolding state_bytes node_at pending_at queue_at
+state-put s long p q r t u =
+    put-after p (put-after q (put-after (rw (table_own s.pending 0, long) at r) (put-after t u)))

@@ -1,0 +1,4 @@
+-- What others use in place of the definitions' texts.
+pub mod Kind
+pub mod Wrap
+pub mod Next

@@ -1,0 +1,120 @@
+-- The fresh state: what its nodes and channels are; and how it is filled, node by node and channel by channel. Assumes nothing.
+use Rattle.std.specs.Prelude.{List, [], ◌∷◌, ◌++◌, ◌≡◌, ℕ, zero, suc, ◌*◌, ◌/◌, ◌%◌, ◌<◌, ℤ, get_or, set, replicate}
+use Rattle.std.proofs.Math.Path.{refl, ap}
+use Rattle.std.proofs.Common.{◌∙◌, arith, ne_eqb}
+use Rattle.std.proofs.lemmas.List.{length-replicate}
+use Rattle.laws.specs.Lists.{padded}
+use Rattle.laws.specs.Laws.Lists.{replicate_rest}
+use Rattle.laws.specs.Table.{table}
+use Rattle.laws.specs.Laws.Table.{padded-table, padded_same}
+use Rattle.image.specs.Image.{nodes, channels, parameter, from, stations}
+use Rattle.verdict.specs.Accepted.{Accepted}
+use Rattle.verdict.specs.Judge.{judge}
+use Rattle.relay.specs.declared.Station.{Station}
+use Rattle.relay.specs.Station.{station_of}
+use Rattle.relay.specs.Row.{contents}
+use Rattle.shell.specs.declared.Queue.{Queue}
+use Rattle.shell.specs.Queue.{queue_of}
+use Rattle.shell.specs.Channel.{tokens}
+use Rattle.state.specs.declared.Node.{Node}
+use Rattle.state.specs.declared.State.{State}
+use Rattle.state.specs.Told.{Told}
+use Rattle.state.specs.State.{no_node, node_at, firings_at, channel_in, state_of}
+use Rattle.state.specs.Laws.State.{node_of, channel_of}
+use Rattle.state.specs.Fresh.{fresh_node, fresh_channel, fresh_state, zeros, fresh_answer}
+
+-- ---- what it is written from
+pub fresh-cycles : (img : List ℕ) → (fresh_state img).cycles ≡ 0
+unfolding fresh_state state_of
+fresh-cycles img = refl
+
+pub fresh_node_lem : (img : List ℕ) (n : ℕ) → n < nodes img → node_at (fresh_state img) n ≡ record { value = parameter img n; firings = 0 }
+unfolding fresh_state
+fresh_node_lem img n h = node_of img 0 _ _ n h
+
+pub fresh_firings : (img : List ℕ) (n : ℕ) → n < nodes img → firings_at (fresh_state img) n ≡ 0
+fresh_firings img n h = ap (λ (x : Node). x.firings) (fresh_node_lem img n h)
+
+-- stations that hold nothing
+nothing_there : (r : ℕ) → contents (replicate r []) ≡ []
+unfolding contents
+nothing_there zero = refl
+nothing_there (suc r) = rw (nothing_there r)
+
+module _ (img : List ℕ) (a : Accepted img) (c : ℕ) (h : c < channels img) where
+  pub fresh-channel : channel_in img (fresh_state img) c ≡ fresh_channel img c
+  unfolding fresh_state
+  fresh-channel = channel_of img 0 _ _ c h (a.wires c h).0 (a.rows c h) (length-replicate (stations img c) _) refl
+
+  -- each channel holds one token, its from node's parameter
+  pub fresh-tokens : tokens (channel_in img (fresh_state img) c) ≡ parameter img (from img c) ∷ []
+  unfolding tokens
+  fresh-tokens = ap tokens fresh-channel ∙ ap (λ l. l ++ (parameter img (from img c) ∷ [])) (nothing_there (stations img c))
+
+-- ---- how it is filled
+-- the first n nodes and the first c marks are set, and the rest is 0
+unfoldable pub filled : List ℕ → ℕ → ℕ → State
+filled img n c =
+    record {
+      cycles = 0;
+      nodes = padded 64 no_node (table (fresh_node img) n);
+      pending = padded 96 0 (table (λ k. 1) c);
+      stations = replicate 768 (station_of []);
+      queues = replicate 96 (queue_of []);
+    }
+
+module _ (img : List ℕ) where
+  pub filled_none : zeros ≡ filled img 0 0
+  unfolding zeros filled padded table
+  filled_none = refl
+
+  -- one more node, and one more mark
+  pub filled_node :
+      (n c : ℕ) → n < 64 → (s : State) → s ≡ filled img n c → (v : ℤ) → v ≡ parameter img n
+      → record {
+        cycles = s.cycles;
+        nodes = set s.nodes n (record { value = v; firings = 0 });
+        pending = s.pending;
+        stations = s.stations;
+        queues = s.queues;
+      }
+      ≡ filled img (suc n) c
+  unfolding filled
+  filled_node n c h s e v q = rw (e, q, padded-table (fresh_node img) n 64 no_node h)
+
+  pub filled_pending :
+      (n c : ℕ) → c < 96 → (s : State) → s ≡ filled img n c
+      → record { cycles = s.cycles; nodes = s.nodes; pending = set s.pending c 1; stations = s.stations; queues = s.queues }
+      ≡ filled img n (suc c)
+  unfolding filled
+  filled_pending n c h s e = rw (e, padded-table {A = ℕ} (λ k. 1) c 96 0 h)
+
+  -- with all of them it is the fresh state
+  pub filled_all : Accepted img → filled img (nodes img) (channels img) ≡ fresh_state img
+  unfolding filled fresh_state state_of
+  filled_all a =
+      rw (
+        padded_same (λ i. station_of (get_or (replicate (stations img (i / 8)) []) (i % 8) [])) (8 * channels img) 768 (station_of [])
+            (omega (arith, a.few_channels)) (λ i h. ap station_of (replicate_rest (stations img (i / 8)) (i % 8) [])),
+        padded_same (λ c. queue_of []) (channels img) 96 (queue_of []) a.few_channels (λ c h. refl),
+      )
+
+-- ---- what the code builds
+-- zeros, from an empty station and an empty queue
+pub zeros_of :
+    (station : Station) (queue : Queue) → station ≡ station_of [] → queue ≡ queue_of []
+    → record { cycles = 0; nodes = replicate 64 no_node; pending = replicate 96 0; stations = replicate 768 station; queues = replicate 96 queue }
+    ≡ zeros
+unfolding zeros
+zeros_of station queue e q = rw (e, q)
+
+-- the two answers, by the judge's number
+pub fresh_refused :
+    (img : List ℕ) (number : ℕ) (s : State) → number ≡ judge img → s ≡ zeros → (judge img ≡ 0 → ⊥)
+    → ◌≡◌ {A = Told} (record { number = number; state = s }) (fresh_answer img)
+unfolding fresh_answer
+fresh_refused img number s e z ne = rw (e, z, ne_eqb (judge img) 0 ne)
+
+pub fresh-made : (img : List ℕ) (s : State) → judge img ≡ 0 → s ≡ fresh_state img → ◌≡◌ {A = Told} (record { number = 0; state = s }) (fresh_answer img)
+unfolding fresh_answer
+fresh-made img s e z = rw (z, e)

@@ -1,0 +1,173 @@
+-- Laws of an input: how long its image is, where its words lie, and what its number says. Assumes nothing.
+use Rattle.std.specs.Prelude.{Bool, true, false, not, List, ◌≡◌, refl, ◌^◌, eqb, ltb, get_or, take, drop}
+use Rattle.std.specs.Int.{from_le_bytes, w64}
+use Rattle.std.specs.Simd.{first_chunks}
+use Rattle.std.proofs.Common.{⊎_elim, sym, ap, ◌∙◌, not-suc-le-zero, mul-zero, mul-suc, eqb-true, ltb-false, ne_eqb, length-take-le, drop-drop, get_or-drop}
+use Prim.Native.Nat.{ℕ, zero, suc, ◌+◌, ◌*◌, ◌-◌, ◌/◌, ◌%◌, ◌<◌, ◌≤◌, min}
+use native.Mathlib.Omega.{arith}
+use Rattle.std.proofs.lemmas.Bool.{not-false}
+use Rattle.std.proofs.Math.ListN.{length, length-take, replicate, get_or-eq_default}
+use Rattle.std.proofs.Math.Seq.{get_or-take}
+use Rattle.io.specs.Counts.{IsPrefixLen}
+use Rattle.laws.specs.Below.{any_below}
+use Rattle.laws.specs.Laws.Below.{any_none, any_same}
+use Rattle.laws.specs.Laws.Cases.{lt-or-ge}
+use Rattle.laws.specs.Choice.{◌if◌else◌}
+use Rattle.laws.specs.Laws.Choice.{past}
+use Rattle.laws.specs.Laws.Lists.{take_min}
+use Rattle.laws.specs.Laws.Table.{length-table, table_at}
+use Rattle.image.specs.Image.{nodes, channels, four_bytes}
+use Rattle.verdict.specs.Judge.{judge}
+use Rattle.verdict.specs.Laws.Accepted.{accepted}
+use Rattle.engine.specs.Answer.{sets_above}
+use Rattle.trace_input.specs.Input.{image_due, image_of, word_at, word_count, words_of, above_at, any_above, number_from, input_number}
+
+-- ---- the image
+module _ (input : List ℕ) where
+  -- it is as long as is due, or as the input
+  pub image_length : length (image_of input) ≡ min (image_due input) (length input)
+  unfolding image_of
+  image_length = length-take (image_due input) input
+
+  -- and is the input's first bytes
+  pub image_taken : take (length (image_of input)) input ≡ image_of input
+  unfolding image_of
+  image_taken = rw length-take (sym (take_min (image_due input) input))
+
+  -- a count of so many bytes
+  pub image_counts : (n : ℕ) → n ≡ min (image_due input) (length input) → (n ≡ length (image_of input)) × IsPrefixLen n input
+  image_counts n e = let h : n ≤ length input = omega arith in (e ∙ sym image_length, (h, sym (length-take-le n input h)))
+
+  -- its N and C are the input's
+  pub image_sizes : (nodes (image_of input) ≡ nodes input) × (channels (image_of input) ≡ channels input)
+  unfolding image_of image_due nodes channels
+  image_sizes = (get_or-take (image_due input) input 0 0 (omega arith), get_or-take (image_due input) input 1 0 (omega arith))
+
+-- ---- the words
+chunk_at : {A : Type 0} (n k : ℕ) (xs : List A) (i : ℕ) (d : List A) → i < k → get_or (first_chunks n k xs) i d ≡ take n (drop (n * i) xs)
+chunk_at n zero xs i d h = absurd (not-suc-le-zero h)
+chunk_at n (suc k) xs zero d h = rw mul-zero
+chunk_at n (suc k) xs (suc i) d h =
+    let e : n * suc i ≡ n + n * i = rw mul-suc (omega arith) in
+    chunk_at n k (drop n xs) i d (omega (arith, h)) ∙ rw (drop-drop, e)
+
+length_chunks : {A : Type 0} (n k : ℕ) (xs : List A) → length (first_chunks n k xs) ≡ k
+length_chunks n zero xs = refl
+length_chunks n (suc k) xs = ap suc (length_chunks n k (drop n xs))
+
+-- eight bytes as one number
+chunk_byte : (input : List ℕ) (at i : ℕ) → i < 8 → get_or (take 8 (drop at input)) i 0 ≡ get_or input (at + i) 0
+chunk_byte input at i h = get_or-take 8 (drop at input) i 0 h ∙ get_or-drop at input i 0
+
+chunk_word : (input : List ℕ) (at : ℕ) → from_le_bytes w64 (take 8 (drop at input)) ≡ four_bytes input at + 2 ^ 32 * four_bytes input (at + 4)
+chunk_word input at =
+    let b = chunk_byte input at in
+    let e5 : at + 4 + 1 ≡ at + 5 = omega arith in
+    let e6 : at + 4 + 2 ≡ at + 6 = omega arith in
+    let e7 : at + 4 + 3 ≡ at + 7 = omega arith in
+    let e0 : at + 0 ≡ at = omega arith in
+    rw (
+      b 0 (omega arith),
+      b 1 (omega arith),
+      b 2 (omega arith),
+      b 3 (omega arith),
+      b 4 (omega arith),
+      b 5 (omega arith),
+      b 6 (omega arith),
+      b 7 (omega arith),
+      e0,
+      e5,
+      e6,
+      e7,
+    )
+    (omega arith)
+
+module _ (input : List ℕ) where
+  -- what follows the image, in whole words
+  pub tail_words : (length input - length (image_of input)) / 8 ≡ word_count input
+  unfolding word_count
+  tail_words =
+      let e : length input - min (image_due input) (length input) ≡ length input - image_due input = omega arith in
+      rw (image_length input, e)
+
+  pub word_there : (k : ℕ) → k < word_count input → get_or (words_of input) k 0 ≡ word_at input k
+  unfolding words_of
+  word_there k h = table_at (word_at input) (word_count input) k 0 h
+
+  pub length-words : length (words_of input) ≡ word_count input
+  unfolding words_of
+  length-words = length-table (word_at input) (word_count input)
+
+  pub word_past : (k : ℕ) → word_count input ≤ k → get_or (words_of input) k 0 ≡ 0
+  word_past k h = get_or-eq_default (words_of input) 0 (rw length-words h)
+
+  -- as the code reads it
+  pub word_read :
+      (k : ℕ) → from_le_bytes w64 (get_or (first_chunks 8 (word_count input) (drop (length (image_of input)) input)) k (replicate 8 0)) ≡ get_or (words_of input) k 0
+  unfolding word_at word_count
+  word_read k =
+      ⊎_elim
+      (λ (h : k < word_count input).
+      let due : length (image_of input) ≡ image_due input = omega (arith, image_length input, h) in
+      rw (chunk_at 8 (word_count input) (drop (length (image_of input)) input) k (replicate 8 0) h, drop-drop, due, word_there k h) (chunk_word input (image_due input + 8 * k)))
+      (λ (h : word_count input ≤ k).
+      let none = get_or-eq_default (first_chunks 8 (word_count input) (drop (length (image_of input)) input)) (replicate 8 0) {n = k} (rw length_chunks h) in
+      rw (word_past k h, none))
+      (lt-or-ge k (word_count input))
+
+-- as the code looks at them
+pub above_read : (input : List ℕ) → any_below (λ k. sets_above (nodes input) (get_or (words_of input) k 0)) (word_count input) ≡ any_above input
+above_read input =
+    any_same (λ k. sets_above (nodes input) (get_or (words_of input) k 0)) (above_at input) (word_count input) (λ k h. rw (word_there input k h))
+
+-- ---- the number
+-- an answer 0: no test holds
+never : (k : ℕ) (early ragged : Bool) → (suc k if early else 3 if ragged else suc k) ≡ 0 → ⊥
+never k true ragged e = omega arith
+never k false true e = omega arith
+never k false false e = omega arith
+
+clear :
+    (judged tail : ℕ) (above : Bool) → number_from judged tail above ≡ 0
+    → (judged ≡ 0) × (tail % 8 ≡ 0) × (tail / 8 ≤ 4096) × (above ≡ false)
+clear zero tail above e =
+    let h3 = past 2 _ _ e in
+    let h14 = past 13 _ _ h3.1 in
+    let h12 = past 11 _ _ h14.1 in
+    (refl, eqb-true (tail % 8) 0 (not-false (eqb (tail % 8) 0) h3.0), ltb-false 4096 (tail / 8) h14.0, h12.0)
+clear (suc k) tail above e = absurd (never k (ltb (suc k) 4) (not (eqb (tail % 8) 0)) (rw (ne_eqb (suc k) 0 (λ q. omega arith)) at e))
+
+pub number-clear :
+    (input : List ℕ) (size : ℕ) → input_number input size ≡ 0
+    → (judge (image_of input) ≡ 0) × ((size - image_due input) % 8 ≡ 0) × ((size - image_due input) / 8 ≤ 4096) × (any_above input ≡ false)
+unfolding input_number
+number-clear input size e = clear (judge (image_of input)) (size - image_due input) (any_above input) e
+
+-- ---- an input whose number is 0
+module _ (input : List ℕ) (e : input_number input (length input) ≡ 0) where
+  abbrev none :
+      (judge (image_of input) ≡ 0) × ((length input - image_due input) % 8 ≡ 0) × ((length input - image_due input) / 8 ≤ 4096)
+      × (any_above input ≡ false)
+  none = number-clear input (length input) e
+
+  -- its image is accepted,
+  pub input-accepted : judge (image_of input) ≡ 0
+  input-accepted = none.0
+
+  -- nothing is missing from it or left over,
+  pub input-whole : length input ≡ length (image_of input) + 8 * length (words_of input)
+  unfolding image_due word_count
+  input-whole =
+      let whole = (accepted (image_of input) input-accepted).whole in
+      rw (length-words input) (omega (arith, whole, image_sizes input, image_length input, none.1))
+
+  -- its words are few,
+  pub words_few : length (words_of input) ≤ 4096
+  unfolding word_count
+  words_few = rw (length-words input) none.2
+
+  -- and none of them sets a bit at or above N
+  pub words_below : (k : ℕ) → k < length (words_of input) → sets_above (nodes (image_of input)) (get_or (words_of input) k 0) ≡ false
+  words_below k h =
+      let l : k < word_count input = rw (length-words input) at h in
+      rw ((image_sizes input).0, word_there input k l) (any_none (above_at input) k (word_count input) none.3 l)

@@ -1,0 +1,158 @@
+-- What each way out of a call for a line has done. Assumes nothing.
+use Rattle.std.specs.Prelude.{true, false, List, ◌≡◌, ℕ, ◌≤◌, ◌<◌, eqb, ℤ, pos, length, drop, Result, Ok, Err}
+use Rattle.std.proofs.Common.{⊎_elim, sym, ◌∙◌, arith}
+use Rattle.std.proofs.Math.Path.{ap}
+use borrow.Author.Tests.{eq-eqb, ne_eqb, eqb-false}
+use Rattle.std.proofs.Math.ListN.{take, get_or, get_or-append}
+use Rattle.laws.specs.Laws.Cases.{true_or_false}
+use Rattle.laws.specs.Table.{table}
+use Rattle.laws.specs.Laws.Table.{length-table, table_at, table_same, take-table}
+use Rattle.image.specs.Image.{nodes, channels}
+use Rattle.verdict.specs.Judge.{judge}
+use Rattle.refusal.specs.Number.{number}
+use Rattle.refusal.specs.Laws.Number.{number_positive}
+use Rattle.refusal.specs.declared.Refusal.{Refusal}
+use Rattle.relay.specs.declared.Reading.{Reading}
+use Rattle.verdict.specs.Laws.Accepted.{accepted}
+use Rattle.state.specs.declared.State.{State}
+use Rattle.state.specs.State.{firings_at}
+use Rattle.cycle.specs.Cycle.{reading_at, state_after, letters_of, values_of}
+use Rattle.state.specs.Told.{Told}
+use Rattle.engine.specs.Answer.{step_number, number_of_step, step_answer, letters_written, values_written}
+use Rattle.engine.specs.Laws.Answer.{number_ok, state_ok}
+use Rattle.engine.specs.Done.{StepDone}
+use Rattle.engine.specs.Loops.Taken.{state_number}
+use Rattle.text.specs.Lines.{line_text, closing_text, reading_in}
+use Rattle.writer.specs.Write.{written_answer, WriteDone, WriteTold, write_told}
+use Rattle.writer.specs.Laws.Write.{told_ok}
+use Rattle.tracer.specs.Trace.{cycle_text, firings_of}
+use Rattle.tracer.specs.Done.{LineTold, line_answer, line_over, LineDone, closing_answer, closing_over, ClosingDone}
+
+-- ---- a step that is lent 96 places
+module _
+    {img : List ℕ} {s : State} {word : ℕ} {letters : List ℕ} {values : List ℤ} {stepped : Told} {letters_left : List ℕ} {values_left : List ℤ}
+    (d : StepDone img s word letters values stepped letters_left values_left) (l : length letters ≡ 96) (v : length values ≡ 96) where
+  pub step-number : stepped.number ≡ step_number img s word 96 96
+  unfolding step_answer number_of_step
+  step-number = ap (λ (a : Told). a.number) d.answered ∙ rw (l, v)
+
+  -- the image was accepted, and the first C places have the cycle's letters and values
+  module _ (e : stepped.number ≡ 0) where
+    zero_of : number_of_step img s word letters values ≡ 0
+    unfolding number_of_step
+    zero_of = rw (l, v) (sym step-number ∙ e)
+
+    pub step-accepted : (judge img ≡ 0) × (channels img ≤ 96)
+    step-accepted =
+        let n = number_ok img s word 96 96 (sym step-number ∙ e) in
+        ((state_ok img s n.0).0, n.3)
+
+    pub step-state : stepped.state ≡ state_after img word s
+    unfolding step_answer
+    step-state = ap (λ (a : Told). a.state) d.answered ∙ rw zero_of
+
+    -- each channel's letter and value are what it shows
+    step_row : (c : ℕ) → c < channels img → reading_in letters_left values_left c ≡ reading_at img s c
+    unfolding letters_written values_written reading_in letters_of values_of
+    step_row c h =
+        let n = channels img in
+        let a : get_or letters_left c 0 ≡ (reading_at img s c).letter =
+        ap (λ x. get_or x c 0) d.lettered
+        ∙ rw zero_of (get_or-append (letters_of img s) (drop n letters) 0 c (rw length-table h) ∙ table_at (λ k. (reading_at img s k).letter) n c 0 h) in
+        let b : get_or values_left c (pos 0) ≡ (reading_at img s c).value =
+        ap (λ x. get_or x c (pos 0)) d.valued
+        ∙ rw zero_of
+        (get_or-append (values_of img s) (drop n values) (pos 0) c (rw length-table h) ∙ table_at (λ k. (reading_at img s k).value) n c (pos 0) h) in
+        rw (a, b)
+
+    pub step_text :
+        {row : List Reading} → row ≡ table (reading_in letters_left values_left) 96 → line_text s.cycles (take (channels img) row) ≡ cycle_text img s
+    unfolding cycle_text
+    step_text e =
+        rw (e, take-table (reading_in letters_left values_left) (channels img) 96 step-accepted.1)
+        (ap (line_text s.cycles) (table_same (reading_in letters_left values_left) (reading_at img s) (channels img) step_row))
+
+  -- the state that a refused step hands back
+  pub step_refused : (stepped.number ≡ 0 → ⊥) → stepped.state ≡ s
+  unfolding step_answer number_of_step
+  step_refused n =
+      ap (λ (a : Told). a.state) d.answered
+      ∙ rw (l, v, ne_eqb (step_number img s word 96 96) 0 (λ q. n (step-number ∙ q)))
+
+-- ---- a cycle's line
+module _ (img : List ℕ) (s : State) (word : ℕ) (out : List ℕ) where
+  -- the step was refused
+  pub line_refused :
+      {number : ℕ} → number ≡ step_number img s word 96 96 → (number ≡ 0 → ⊥)
+      → LineDone img s word out (record { number = number; length = 0; state = s }) out
+  unfolding line_answer line_over
+  line_refused {number} e n = let q = ne_eqb number 0 n in record { answered = rw (← e, q); over = rw (← e, q) }
+
+  module _ {text left : List ℕ} (e : 0 ≡ step_number img s word 96 96) (t : text ≡ cycle_text img s) where
+    -- the line is too long
+    pub line_long :
+        {refusal : Refusal} → WriteDone text out (Err refusal) left
+        → LineDone img s word out (record { number = number refusal; length = 0; state = s }) left
+    unfolding line_answer line_over
+    line_long {refusal} d =
+        let n = ne_eqb (number refusal) 0 (λ z. absurd (omega (arith, z, number_positive refusal))) in
+        record { answered = rw (← e, ← t, ← d.answered, n); over = d.over ∙ rw (← e, t) }
+
+    -- it was written
+    pub line_written :
+        {n : ℕ} {after : State} → WriteDone text out (Ok n) left → after ≡ state_after img word s
+        → LineDone img s word out (record { number = 0; length = n; state = after }) left
+    unfolding line_answer line_over
+    line_written d a = record { answered = rw (← e, ← t, ← d.answered, a); over = d.over ∙ rw (← e, t) }
+
+-- ---- the closing line
+module _ (img : List ℕ) (s : State) (out : List ℕ) where
+  pub closing_refused :
+      {number : ℕ} → number ≡ state_number img s → (number ≡ 0 → ⊥) → ClosingDone img s out (record { number = number; length = 0 }) out
+  unfolding closing_answer closing_over
+  closing_refused {number} e n = let q = ne_eqb number 0 n in record { answered = rw (← e, q); over = rw (← e, q) }
+
+  pub closing_written :
+      {left : List ℕ} {answer : Result ℕ Refusal} → 0 ≡ state_number img s
+      → WriteDone (closing_text (take (nodes img) (table (firings_at s) 64))) out answer left → ClosingDone img s out (write_told answer) left
+  unfolding closing_answer closing_over firings_of
+  closing_written e d =
+      let j = (state_ok img s (sym e)).0 in
+      let t = take-table (firings_at s) (nodes img) 64 (accepted img j).few_nodes in
+      record { answered = ap write_told d.answered ∙ rw (← e, t); over = d.over ∙ rw (← e, t) }
+
+-- ---- for callers: an answer says that the line was written, and that the cycle was made
+pub line_made :
+    {img : List ℕ} {s : State} {word : ℕ} {out left : List ℕ} {n : ℕ} {after : State}
+    → LineDone img s word out (record { number = 0; length = n; state = after }) left
+    → WriteDone (cycle_text img s) out (Ok n) left × (after ≡ state_after img word s)
+unfolding line_answer line_over
+line_made {img} {s} {word} {out} {n = n} d =
+    let number = step_number img s word 96 96 in
+    let answer = written_answer (cycle_text img s) out in
+    let z = ap (λ (a : LineTold). a.number) d.answered in
+    let l = ap (λ (a : LineTold). a.length) d.answered in
+    ⊎_elim
+    (λ (q : eqb number 0 ≡ true).
+    let w : 0 ≡ (write_told answer).number = rw q at z in
+    let k : n ≡ (write_told answer).length = rw q at l in (
+      record { answered = told_ok answer w k; over = d.over ∙ rw q },
+      ap (λ (a : LineTold). a.state) d.answered ∙ rw (q, eq-eqb _ 0 (sym w)),
+    ))
+    (λ (q : eqb number 0 ≡ false). let w : number ≡ 0 = sym (rw q at z) in absurd (eqb-false number 0 q w))
+    (true_or_false (eqb number 0))
+
+pub closing_made :
+    {img : List ℕ} {s : State} {out left : List ℕ} {n : ℕ} → ClosingDone img s out (record { number = 0; length = n }) left
+    → WriteDone (closing_text (firings_of img s)) out (Ok n) left
+unfolding closing_answer closing_over
+closing_made {img} {s} {out} {n = n} d =
+    let answer = written_answer (closing_text (firings_of img s)) out in
+    let z = ap (λ (a : WriteTold). a.number) d.answered in
+    let l = ap (λ (a : WriteTold). a.length) d.answered in
+    ⊎_elim
+    (λ (q : eqb (state_number img s) 0 ≡ true).
+    let w : 0 ≡ (write_told answer).number = rw q at z in
+    let k : n ≡ (write_told answer).length = rw q at l in record { answered = told_ok answer w k; over = d.over ∙ rw q })
+    (λ (q : eqb (state_number img s) 0 ≡ false). let w : state_number img s ≡ 0 = sym (rw q at z) in absurd (eqb-false (state_number img s) 0 q w))
+    (true_or_false (eqb (state_number img s) 0))

@@ -1,0 +1,3 @@
+-- What only loops hold.
+pub mod Passes
+pub mod PassesLaws

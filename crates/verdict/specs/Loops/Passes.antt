@@ -1,0 +1,30 @@
+-- What the judge's passes look at: the chain's last links, and what the channels below c mark.
+use Rattle.std.specs.Prelude.{Bool, true, false, not, List, ℕ, ltb, get_or}
+use Rattle.laws.specs.Below.{any_below, sum_below}
+use Rattle.laws.specs.Choice.{◌if◌else◌}
+use Rattle.image.specs.Image.{channels, kind, to, port, stations, inputs}
+use Rattle.verdict.specs.Judge.{bad_stations, bad_depth}
+use Rattle.image.specs.Loops.Ports.{port_place, ports_below}
+
+-- numbers 9 to 11
+unfoldable pub depth_number : List ℕ → ℕ
+depth_number img =
+    9 if any_below (bad_stations img) (channels img) else
+    10 if any_below (bad_depth img) (channels img) else
+    11 if ltb 256 (sum_below (stations img) (channels img)) else
+    0
+
+-- the marks of the ports that the channels below c feed
+unfoldable pub fed_below : List ℕ → ℕ → List Bool
+fed_below img c = ports_below img (λ k. true) false c
+
+-- channel c finds its port marked, and whether a channel below c does
+abbrev pub finds : List ℕ → ℕ → Bool
+finds img c = get_or (fed_below img c) (port_place (to img c) (port img c)) false
+
+unfoldable pub twice_below : List ℕ → ℕ → Bool
+twice_below img c = any_below (finds img) c
+
+-- a port of node n that is not fed
+unfoldable pub misses : List ℕ → List Bool → ℕ → Bool
+misses img ports n = any_below (λ p. not (get_or ports (port_place n p) false)) (inputs (kind img n))

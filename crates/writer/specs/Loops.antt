@@ -1,0 +1,3 @@
+-- What only loops hold.
+pub mod Put
+pub mod PutLaws
