@@ -29,7 +29,7 @@ extern "C" {
  *     0               4       cycle count
  *     4 + 8 n         4       node n (0 to 63): the value that it shows, signed
  *     8 + 8 n         4       its firings
- *     516 + c         1       channel c (0 to 95): its pending mark, 0 or 1
+ *     516 + c         1       channel c (0 to 95): 1 if a token is pending, 0 if not
  *     612 + 72 c + 9 j    9   its station j, counted from 0 (0 to 7): a station record
  *     7524 + 33 c     32      its queue: 8 tokens, signed, oldest first
  *     7556 + 33 c     1       how many tokens the queue holds

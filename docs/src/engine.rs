@@ -183,8 +183,8 @@ impl State {
         self.cycles <= MOST_CYCLES
             && self.nodes[..n].iter().all(|node| node.firings <= self.cycles)
             && self.nodes[n..].iter().all(|node| *node == Node::default())
-            && self.pending[..c].iter().all(|&mark| mark <= 1)
-            && self.pending[c..].iter().all(|&mark| mark == 0)
+            && self.pending[..c].iter().all(|&pending| pending <= 1)
+            && self.pending[c..].iter().all(|&pending| pending == 0)
             && self.stations[8 * c..].iter().all(|station| *station == Station::default())
             && self.queues[c..].iter().all(|queue| *queue == Queue::default())
             && net.channels.iter().enumerate().all(|(c, channel)| self.channel_fits(c, channel))

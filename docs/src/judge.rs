@@ -30,7 +30,7 @@ pub fn judge(image: &[u8]) -> u8 {
         return 5;
     }
 
-    // Bit p of a node's mark: its port p is fed.
+    // Bit p of a node's number: its port p is fed.
     let mut fed = [0u8; 64];
     let mut twice = false;
     for wire in wires.chunks_exact(3) {
@@ -44,7 +44,7 @@ pub fn judge(image: &[u8]) -> u8 {
     if twice {
         return 7;
     }
-    if kinds.iter().zip(fed).any(|(&kind, marks)| marks.count_ones() != inputs(kind).unwrap_or(0) as u32) {
+    if kinds.iter().zip(fed).any(|(&kind, ports)| ports.count_ones() != inputs(kind).unwrap_or(0) as u32) {
         return 8;
     }
     if depths.chunks_exact(2).any(|depth| depth[0] > 8) {

@@ -443,7 +443,7 @@ fn damage_state(bytes: &mut [u8], random: &mut Random, net: &Netlist) {
         _ => queue + random.below(32),
     };
     bytes[at] = bytes[at].wrapping_add(nudge);
-    // A firing more, and a mark that may make up for it.
+    // A firing more, and a pending byte that may make up for it.
     if random.one_in(8) {
         bytes[516 + channel] ^= 1;
     }

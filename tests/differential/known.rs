@@ -203,7 +203,7 @@ fn sparse_words() -> Vec<u64> {
 }
 
 /// All fields of a state as the digits of a number in base 65,599, modulo 2^32 - 5. A value counts as its sign and its
-/// magnitude; a channel's mark stands before its queue.
+/// magnitude; whether a channel has a token pending stands before its queue.
 fn checksum(state: &[u8]) -> u64 {
     let values = |at: usize, count: usize| {
         let value = move |i: usize| number_at(state, at + 4 * i) as i32;
@@ -213,7 +213,7 @@ fn checksum(state: &[u8]) -> u64 {
     let nodes = (0..64).map(|i| 4 + 8 * i).flat_map(|at| values(at, 1).chain([number_at(state, at + 4)]));
     let stations = (0..768).map(|i| 612 + 9 * i).flat_map(|at| values(at, 2).chain(count(at + 8)));
     let channels = (0..96).map(|c| (516 + c, 7_524 + 33 * c));
-    let channels = channels.flat_map(|(mark, queue)| count(mark).chain(values(queue, 8)).chain(count(queue + 32)));
+    let channels = channels.flat_map(|(pending, queue)| count(pending).chain(values(queue, 8)).chain(count(queue + 32)));
     let fields = [number_at(state, 0)].into_iter().chain(nodes).chain(stations).chain(channels);
     const MODULUS: u64 = (1 << 32) - 5;
     fields.fold(0, |sum, field| (sum * 65_599 + u64::from(field) % MODULUS) % MODULUS)

@@ -30,18 +30,18 @@ use Rattle.bench.specs.Bench.{Told, told, fits, bench_number, refusal, reply, be
 use Rattle.bench.specs.ByValue.{station_benched, row_benched}
 
 -- ---- an answer
--- it is refused exactly if it has a number
+-- an answer is refused exactly if it has a number
 pub refused_number : (a : Result Answer Refusal) → is_ok a ≡ false → eqb (told a).number 0 ≡ false
 unfolding refusal
 refused_number (Ok answer) e = absurd (true≢false e)
 refused_number (Err r) e = let p = number_positive r in ne_eqb _ 0 (λ z. absurd (omega (arith, z, p)))
 
 -- ---- any row
--- the second of two causes is enough
+-- a number with two causes is answered where the second holds
 either : (k later : ℕ) (a b : Bool) → b ≡ true → (k if a || b else later) ≡ k
 either k later a b e = rw (e, or-true)
 
--- one that is too long is refused, whatever it holds
+-- a row that is too long is refused, whatever it holds
 long_number : (row : List Station) → 8 < length row → bench_number row ≡ 15
 unfolding bench_number
 long_number row h = either 15 _ (eqb (length row) 0) _ (lt-ltb _ (length row) (omega arith))
@@ -52,7 +52,7 @@ unfolding bench_answer bench_after
 bench_long row link stop h = record { answered = rw (long_number row h); left = rw (long_number row h) }
 
 module _ (row : List Station) (link : Link) (stop : Bool) where
-  -- it has as many records as before
+  -- a row has as many records after a bench as before
   pub length_bench : length (bench_after row link stop) ≡ length row
   unfolding bench_after
   length_bench = kept (eqb (bench_number row) 0)
@@ -61,7 +61,7 @@ module _ (row : List Station) (link : Link) (stop : Bool) where
       kept true = rw (length-map, length-after, length-map)
       kept false = refl
 
-  -- and is the row itself if the bench is refused
+  -- a row stays as it was if the bench is refused
   pub bench_stays : eqb (bench_answer row link stop).number 0 ≡ false → row ≡ bench_after row link stop
   unfolding bench_answer bench_after reply
   bench_stays e =
@@ -94,7 +94,7 @@ module _ (s : Station) (link : Link) (stop : Bool) where
       (ap (λ (t : Bool). record { after = station_of (place_after (token link) (held s) stop); answer = reply (link_of (held s)) stop t })
       (sym (passing-holds link (holds_two (held s)))))
 
-  -- what it makes of the station is what the row bench makes of the row of it alone,
+  -- what `station_step` makes of a station is what the row bench makes of the row of that station alone
   pub station-done : let b = station_benched s link stop in BenchDone (s ∷ []) link stop b.answer (b.after ∷ [])
   unfolding station_benched
   station-done = record { answered = refl; left = single (bench_after (s ∷ []) link stop) (length_bench (s ∷ []) link stop) }
@@ -104,7 +104,7 @@ module _ (s : Station) (link : Link) (stop : Bool) where
       single (x ∷ []) e = refl
       single (x ∷ y ∷ l) e = absurd (omega arith)
 
-  -- and the other way round
+  -- what the row bench makes of the row of a station alone is what `station_step` makes of the station
   pub done-station :
       (answer : Told) (after : Station) → BenchDone (s ∷ []) link stop answer (after ∷ [])
       → let b = station_benched s link stop in (answer ≡ b.answer) × (after ≡ b.after)
@@ -121,7 +121,7 @@ module _ (row : Row) (long : length row.stations ≡ 8) (n : ℕ) (link : Link) 
   abbrev first : List Station
   first = take n row.stations
 
-  -- the number of the first n, by what stands in the whole row
+  -- the number of the first n records, by what stands in the whole row
   first-number :
       n ≤ 8
       → bench_number first ≡

@@ -31,7 +31,7 @@ all_listed test records (suc n) h =
 take_front : (front rest : List Station) (n : ℕ) → length front ≡ n → take n (front ++ rest) ≡ front
 take_front front rest n long = rw (← long) (take-append_seam front rest)
 
--- ---- all of it
+-- ---- all records of a row
 module _ (records : List Station) (link : Link) (stop : Bool) (short : length records ≤ 8) where
   -- the row by value after the bench
   abbrev made : BenchedTold Row
@@ -51,6 +51,6 @@ module _ (records : List Station) (link : Link) (stop : Bool) (short : length re
             ∙ take_front after (drop n st) n (length_bench records link stop),
       )
 
-  -- nothing is stored of a bench that is refused
+  -- a bench that is refused stores nothing
   pub copied_stays : eqb made.answer.number 0 ≡ false → records ≡ bench_after records link stop
   copied_stays e = bench_stays records link stop (ap (λ (a : Told). eqb a.number 0) (sym bench_copied.0) ∙ e)

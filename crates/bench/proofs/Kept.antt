@@ -1,4 +1,5 @@
--- What a bench that is accepted keeps: number 21, and every token, in order. Assumes nothing.
+-- What a bench that is not refused keeps: the row fits (21), and every token is there, in order. Assumes nothing.
+use Prim.Native.Char.{code}
 use Rattle.std.specs.Prelude.{Bool, false, not, ◌||◌, ◌≡◌, refl, ℕ, ◌<◌, ◌≤◌, eqb, ℤ, pos, None, Some, unwrap_or}
 use Rattle.std.proofs.Math.Bool.{true}
 use mathlib.Core.List.{List, [], ◌∷◌, ◌++◌, map}
@@ -25,7 +26,7 @@ use Rattle.relay.specs.RowCycle.{no_station}
 use Rattle.bench.specs.Bench.{fits, bench_number, reply, bench_answer, bench_after}
 use Rattle.bench.proofs.BenchLaws.{length_bench}
 
--- what is written fits
+-- a station record written of a place of at most two tokens fits
 fits_of : (place : List ℤ) → length place ≤ 2 → fits (station_of place) ≡ true
 unfolding fits station_of padded zero_from all_below
 fits_of [] h = refl
@@ -33,7 +34,7 @@ fits_of (x ∷ []) h = refl
 fits_of (x ∷ y ∷ []) h = refl
 fits_of (x ∷ y ∷ z ∷ place) h = absurd (not-suc-le-zero {n = 0} (omega arith))
 
--- what is taken is what passes
+-- the token that a bench takes is the one that passes link 0
 taken_passing : (link : Link) (stop : Bool) → passing (token link) stop ≡ one_if (holds (passing (token link) stop)) (unwrap_or link (pos 0))
 taken_passing (Some x) true = refl
 taken_passing (Some x) false = refl
@@ -44,7 +45,7 @@ held_all : (places : List (List ℤ)) → map held (map station_of places) ≡ p
 held_all [] = refl
 held_all (place ∷ places) = ap₂ {C = List (List ℤ)} (λ p ps. p ∷ ps) (held_of place) (held_all places)
 
--- neither number has a cause
+-- a row that is accepted has the cause of neither number
 module _ (row : List Station) (accepted : bench_number row ≡ 0) where
   pub accepted_long : (eqb (length row) 0 || ltb 8 (length row)) ≡ false
   unfolding bench_number
@@ -67,7 +68,7 @@ module _ (row : List Station) (link : Link) (stop : Bool) (accepted : bench_numb
   -- first in, first out: the token that leaves, and then those of the row after the cycle, are those before it, and then the one that was taken
   pub bench_fifo :
       let a = bench_answer row link stop in
-      one_if (eqb a.letter 84) a.value ++ contents (map held (bench_after row link stop)) ≡
+      one_if (eqb a.letter (code "T")) a.value ++ contents (map held (bench_after row link stop)) ≡
       contents (map held row) ++ one_if a.taken (unwrap_or link (pos 0))
   unfolding bench_answer reply
   bench_fifo =
@@ -77,7 +78,7 @@ module _ (row : List Station) (link : Link) (stop : Bool) (accepted : bench_numb
       rw (accepted, after, held_all, letter-passing shown stop few, ← (taken_passing link (stopped places stop)))
       (row_fifo incoming places stop)
 
-  -- no place holds more than two tokens
+  -- no place holds more than two tokens after a bench
   places_few : (j : ℕ) → length (get_or (map held row) j []) ≤ 2
   unfolding held fits
   places_few j =

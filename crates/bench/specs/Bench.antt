@@ -17,7 +17,7 @@ use Rattle.bench.specs.declared.Answer.{Answer}
 unfoldable pub fits : Station → Bool
 fits s = leb s.count 2 && clear s
 
--- the number: "Benches: 15, then 21."
+-- the number of a bench on a row: "Benches: 15, then 21."
 unfoldable pub bench_number : List Station → ℕ
 bench_number row =
     -- row of no records or over 8
@@ -26,7 +26,7 @@ bench_number row =
     21 if not (all_below (λ i. fits (get_or row i no_station)) (length row)) else
     0
 
--- what an answer tells: the number of its refusal, 0 where there is none, and what stands beside it
+-- what a bench answers: its number, 0 if it is not refused, the letter and value of the leaving link, and whether the incoming token was taken
 pub record Told : Type 0 where
   pub number : ℕ
   pub letter : ℕ
@@ -37,33 +37,34 @@ pub record Told : Type 0 where
 unfoldable pub refusal : ℕ → Told
 refusal number = record { number = number; letter = 0; value = pos 0; taken = false }
 
--- one that is not: "the letter and value of the leaving link, and whether the incoming token was taken"
+-- a bench that is not refused answers "the letter and value of the leaving link, and whether the incoming token was taken"
 unfoldable pub reply : Link → Bool → Bool → Told
 reply link stop taken = record { number = 0; letter = (reading link stop).letter; value = (reading link stop).value; taken = taken }
 
+-- what the code's answer of a bench tells, with a number for its refusal
 abbrev pub told : Result Answer Refusal → Told
 told (Ok answer) = record { number = 0; letter = answer.letter; value = answer.value; taken = answer.taken }
 told (Err r) = refusal (number r)
 
--- `row` is lent, in the order in which a token goes through it
+-- a bench that is lent `row`, in the order in which a token goes through it
 module _ (row : List Station) (link : Link) (stop : Bool) where
-  -- "The incoming bit is the row's link 0"
+  -- what stands on the incoming link: "The incoming bit is the row's link 0"
   abbrev incoming : List ℤ
   incoming = token link
 
-  -- the answer. "The leaving link is valid while the last record holds a token, and stopped as given." A token is taken if it passes link 0, "which
-  -- is no when none came"
+  -- what a bench answers. "The leaving link is valid while the last record holds a token, and stopped as given." A token is taken if it passes link
+  -- 0, "which is no when none came"
   unfoldable pub bench_answer : Told
   bench_answer =
       reply (link_of (leaving incoming (map held row))) stop (holds (passing incoming (stopped (map held row) stop)))
       if eqb (bench_number row) 0 else refusal (bench_number row)
 
-  -- the row after it: "the links between records follow the cycle's rules. .. A place that then holds no token is 0." "A refused .. bench writes
-  -- nothing"
+  -- what the lent row holds after a bench: "the links between records follow the cycle's rules. .. A place that then holds no token is 0." "A refused
+  -- .. bench writes nothing"
   unfoldable pub bench_after : List Station
   bench_after = map station_of (row_after incoming (map held row) stop) if eqb (bench_number row) 0 else row
 
--- a call that was lent `row` and left `after`: what the benches' contracts ensure
+-- what a bench has done that was lent `row` and left `after`: each bench's contract ensures this record
 pub record BenchDone (row : List Station) (link : Link) (stop : Bool) (answer : Told) (after : List Station) : Type 0 where
   pub answered : answer ≡ bench_answer row link stop
   pub left : after ≡ bench_after row link stop

@@ -9,24 +9,25 @@ use Rattle.bench.specs.declared.Records.{Records}
 use Rattle.bench.specs.declared.Benched.{Benched}
 use Rattle.bench.specs.Bench.{Told, told, refusal, bench_answer, bench_after}
 
--- what is benched as it is afterwards, and what the answer tells
+-- what a bench by value returns: what was benched as it is afterwards, and what the answer tells
 pub record BenchedTold (A : Type 0) : Type 0 where
   pub after : A
   pub answer : Told
 
+-- what the code's answer of a bench by value tells
 abbrev pub benched_told : {A : Type 0} → Benched A → BenchedTold A
 benched_told b = record { after = b.after; answer = told b.answer }
 
--- a station: the row of it alone
+-- a station benched by value: the bench of the row of it alone
 unfoldable pub station_benched : Station → Link → Bool → BenchedTold Station
 station_benched s link stop =
     record { after = get_or (bench_after (s ∷ []) link stop) 0 no_station; answer = bench_answer (s ∷ []) link stop }
 
--- the first n of a list of records are the row, and the others stay
+-- a list of records after a bench of the first n as a row: the others stay
 abbrev pub first_after : List Station → ℕ → Link → Bool → List Station
 first_after records n link stop = bench_after (take n records) link stop ++ drop n records
 
--- of eight records; more than there are is a row that is too long
+-- the first n of a row's eight records benched by value: 15 where n is over 8
 unfoldable pub row_benched : Row → ℕ → Link → Bool → BenchedTold Row
 row_benched row n link stop =
     record { after = row; answer = refusal 15 } if ltb 8 n else
@@ -35,7 +36,7 @@ row_benched row n link stop =
       answer = bench_answer (take n row.stations) link stop;
     }
 
--- of nine records, one more than a row may have; all of them if n is more
+-- the first n of nine records benched by value, one more than a row may have: all nine where n is more
 unfoldable pub records_benched : Records → ℕ → Link → Bool → BenchedTold Records
 records_benched records n link stop =
     record {

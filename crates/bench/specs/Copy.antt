@@ -1,4 +1,4 @@
--- A row that is lent is copied out over eight empty stations.
+-- What the code copies a lent row to: eight empty stations, by place.
 use Rattle.std.specs.Prelude.{List, [], ℕ, get_or, replicate}
 use Rattle.relay.specs.declared.Station.{Station}
 use Rattle.relay.specs.declared.Row.{Row}
@@ -9,6 +9,6 @@ use Rattle.relay.specs.RowCycle.{no_station}
 unfoldable pub empty_row : Row
 empty_row = record { stations = replicate 8 (station_of []) }
 
--- what stands at place i of a list of records
+-- the record at place i of a list of records
 abbrev pub record_at : List Station → ℕ → Station
 record_at records i = get_or records i no_station

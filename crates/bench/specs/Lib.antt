@@ -1,4 +1,4 @@
--- What the benches answer and leave.
+-- Defines what the benches answer, and what the lent row holds after them.
 pub mod Bench
 pub mod ByValue
 pub mod Copy

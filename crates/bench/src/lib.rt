@@ -1,7 +1,18 @@
-// Benches for relay stations on their own: one station, or a row of up to eight, is lent and changed
-// in place by one cycle. Link and stop are two parameters throughout, as C lends them: a struct of them would
-// mean two things, since a station's stop is on the link that leaves it, a queue's on the one that arrives.
-// One station and a row are apart: a row has a length, and is refused for it, and its copy has eight places.
+// Benches for relay stations on their own: one station, or a row of up to eight, is lent and changed in
+// place by one cycle. Link and stop are two parameters throughout, as C lends them: a struct of them
+// would mean two things, since a station's stop is on the link that leaves it, a queue's on the one that
+// arrives. One station and a row are apart: a row has a length, and is refused for it, and its copy has
+// eight places.
+//
+// `station_bench` copies the station out, steps it by value (`station_step`), and stores it back if it
+// was accepted. `row_bench` copies the records to an array, hands them as a `relay::Row` to
+// `row_step`, which asks for 15 and 21 and then for `Row::cycle`, and copies them back if it was
+// accepted. A row that is too long is refused before it is copied. The library has its records as
+// bytes, lends none, and calls the two steps.
+//
+// Both benches hold a reference to a struct or to a slice of structs, and the trials lend one. What a
+// bench makes of its records their proofs know by laws only (`station-done`, `station_stays`,
+// `bench_copied`, `copied_stays`), so another rule of a bench changes none of them.
 #![tactic(auto)]
 
 pub mod steps;
@@ -13,8 +24,8 @@ ghost use Rattle.bench.specs.ByValue.{benched_told, station_benched, records_ben
 use refusal::Refusal;
 use relay::{Link, Row, Station};
 
-// What a bench answers: the letter and the value of the link that leaves the row, and whether the
-// incoming token was taken: the three that C is told.
+// A bench's answer: the letter and the value of the link that leaves the row, and whether the incoming
+// token was taken. C is told these three.
 #[derive(Clone, Copy, Debug, PartialEq, Eq)]
 pub struct Answer {
     pub letter: u8,
@@ -22,8 +33,8 @@ pub struct Answer {
     pub taken: bool,
 }
 
-// What was benched as it is after the bench, and the answer. One that is refused is as it was, and is
-// handed back: so the records stand beside the `Result` and not in it.
+// What was benched as it is after the bench, and the answer. Where the bench is refused it is as it was,
+// and is handed back: so the records stand beside the `Result` and not in it.
 #[derive(Clone, Copy)]
 pub struct Benched<T> {
     pub after: T,
@@ -41,8 +52,9 @@ impl Records {
     pub const COUNT: usize = 9;
 }
 
-// One cycle of a station that is lent, from the incoming link and the stop below.
-// 21 if its count is over 2 or an unused token is not 0: then it stays as it was.
+// Returns the letter and value of the leaving link and whether the incoming token was taken, given a
+// lent station, the incoming link and the stop below, and leaves the station as it is after one cycle.
+// Refused by 21 if its count is over 2 or an unused token is not 0: then it stays as it was.
 pub fn station_bench(s: &mut Station, link: Link, stop: bool) -> Result<Answer, Refusal>
     ensures { BenchDone (s.old ∷ []) link stop (told result) (s.new ∷ []) }
 {
@@ -53,8 +65,10 @@ pub fn station_bench(s: &mut Station, link: Link, stop: bool) -> Result<Answer, 
     out.answer
 }
 
-// One cycle of a row that is lent, the first record nearest to the incoming link. 15 if it has no
-// records or over 8, then 21 as above: the row stays as it was.
+// Returns the letter and value of the leaving link and whether the incoming token was taken, given a
+// lent row whose first record is nearest to the incoming link, that link and the stop below, and leaves
+// the row as it is after one cycle. Refused by 15 if it has no records or over 8, then by 21 if a record
+// has a count over 2 or a nonzero unused token: then the row stays as it was.
 //
 // The row is copied out, worked by value, and stored back only if it was accepted. A row that is too
 // long is refused before it is copied: its number is 15 whatever it holds.
@@ -74,7 +88,8 @@ pub fn row_bench(row: &mut [Station], link: Link, stop: bool) -> Result<Answer, 
     out.answer
 }
 
-// The station bench for a caller that has its station by value: a copy is lent.
+// Returns a station after one cycle and the answer of `station_bench`, given the station by value, the
+// incoming link and the stop below: a copy is lent.
 pub fn station_trial(station: Station, link: Link, stop: bool) -> Benched<Station>
     ensures { benched_told result ≡ station_benched station link stop }
 {
@@ -83,8 +98,9 @@ pub fn station_trial(station: Station, link: Link, stop: bool) -> Benched<Statio
     Benched { after, answer }
 }
 
-// The row bench for a caller that has its records by value: the first `length` of a copy are lent, all
-// nine if `length` is more, and the others stay as they were.
+// Returns nine records after one cycle and the answer of `row_bench`, given the records by value, the
+// incoming link and the stop below: the first `length` of a copy are lent, all nine if `length` is more,
+// and the others stay as they were.
 pub fn row_trial(records: Records, length: usize, link: Link, stop: bool) -> Benched<Records>
     ensures { benched_told result ≡ records_benched records length link stop }
 {

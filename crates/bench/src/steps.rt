@@ -9,7 +9,8 @@ use crate::{Answer, Benched, Records};
 use refusal::Refusal;
 use relay::{Link, Reading, Row, Station};
 
-// Number 21 of a record: a count within the depth, and 0 in every place that holds no token.
+// Whether a record is free of number 21: a count within the depth, and 0 in every place that holds no
+// token.
 #[tactic(auto, unfolding(crate::specs::Bench::fits))]
 fn fits(station: Station) -> bool
     ensures { result ≡ fits station }
@@ -17,7 +18,8 @@ fn fits(station: Station) -> bool
     (station.count <= Station::DEPTH) & station.clear()
 }
 
-// What one that is not refused answers, from the link that leaves the row.
+// The answer of a bench that is not refused, given the link that leaves the row, its stop, and whether
+// the incoming token was taken.
 #[tactic(auto, unfolding(crate::specs::Bench::reply))]
 fn reply(link: Link, stop: bool, taken: bool) -> Answer
     ensures { told (Ok result) ≡ reply link stop taken }
@@ -30,7 +32,8 @@ fn reply(link: Link, stop: bool, taken: bool) -> Answer
     }
 }
 
-// The station bench.
+// Returns a station after one cycle and what the station bench answers, given the station, the incoming
+// link and the stop below. Refused by 21: then the station is returned as it was.
 pub fn station_step(station: Station, link: Link, stop: bool) -> Benched<Station>
     ensures { benched_told result ≡ station_benched station link stop }
 {
@@ -48,7 +51,7 @@ pub fn station_step(station: Station, link: Link, stop: bool) -> Benched<Station
     }
 }
 
-// Number 21 of the first n records.
+// Whether the first n records of a row are free of number 21.
 fn row_fits(row: Row, n: usize) -> bool
     requires { n ≤ 8 }
     ensures { result ≡ all_below (λ i. fits (record_at row.stations i)) n }
@@ -56,7 +59,9 @@ fn row_fits(row: Row, n: usize) -> bool
     row.stations[..n].iter().all(|station| fits(*station))
 }
 
-// The row bench of the first n records.
+// Returns a row after one cycle of its first n records and what the row bench answers, given the row, n,
+// the incoming link and the stop below. Refused by 15 if n is 0 or over 8, then by 21: then the row is
+// returned as it was.
 pub fn row_step(row: Row, n: usize, link: Link, stop: bool) -> Benched<Row>
     ensures { benched_told result ≡ row_benched row n link stop }
 {
@@ -82,7 +87,7 @@ pub fn row_step(row: Row, n: usize, link: Link, stop: bool) -> Benched<Row>
 
 // ---- a row that is lent: copied out, and stored back
 
-// Eight empty stations, to be copied over.
+// Returns eight empty stations, to be copied over.
 #[tactic(auto, unfolding(crate::specs::Copy::empty_row))]
 pub(crate) fn empty_row() -> Row
     ensures { result ≡ empty_row }
@@ -94,7 +99,7 @@ pub(crate) fn empty_row() -> Row
 
 // ---- records by value, of which the first are lent
 
-// How many of nine records are lent.
+// Returns how many of nine records are lent, given how many are asked for.
 pub(crate) fn lent(length: usize) -> usize
     ensures { result ≡ min length 9 }
 {

@@ -42,7 +42,7 @@ module _
             { answered = refl; lettered = rw back at d.lettered; valued = rw back at d.valued },
       )
 
--- the same of a run
+-- a run on the bytes of a state is a run on that state, and leaves the bytes of the state that it answers
 pub run_bytes :
     (s : State) → Typed s → {img words : List ℕ} {number steps : ℕ} {left : List ℕ} → RunCall img (state_bytes s) words number steps left
     → let answer = run_answer img s words in
@@ -60,7 +60,7 @@ run_bytes s typed {img} {words} {steps = steps} d =
           (true_or_false (eqb steps 0)),
     )
 
--- and of a fresh state, in as many bytes as it takes
+-- a call for a fresh state that is lent as many bytes as it takes leaves the bytes of the fresh state
 pub fresh_bytes :
     (old : List ℕ) → length old ≡ state_length → {img : List ℕ} {number : ℕ} {left : List ℕ} → FreshCall img old number left
     → (number ≡ (fresh_answer img).number) × (left ≡ state_bytes (fresh_answer img).state)

@@ -15,25 +15,30 @@ use Rattle.tracer.specs.Done.{line_answer, line_over, closing_answer, closing_ov
 use Rattle.bench.specs.Bench.{bench_answer, bench_after}
 use Rattle.layout.specs.Bytes.{state_bytes, state_length, station_bytes, state_in}
 
--- ---- a fresh state: "1 to 11 rising", then 13, "a lent array shorter than the result"
+-- ---- a fresh state
+-- the number of a call for a fresh state, given how many bytes are lent: "1 to 11 rising", then 13, "a lent array shorter than the result"
 unfoldable pub fresh_number : List ℕ → ℕ → ℕ
 fresh_number img room =
     judge img if not (eqb (judge img) 0) else
     13 if ltb room state_length else
     0
 
--- the fresh state, or zeros: "A refused call for a fresh state, which is handed none, returns a state of zeros throughout."
+-- what the lent bytes hold after a call for a fresh state: the state, or zeros. "A refused call for a fresh state, which is handed none, returns a
+-- state of zeros throughout." Too few bytes stay as they were
 unfoldable pub fresh_over : List ℕ → List ℕ → List ℕ
 fresh_over img old = old if ltb (length old) state_length else (state_bytes (fresh_answer img).state ++ drop state_length old)
 
+-- what a call for a fresh state has done
 pub record FreshCall (img old : List ℕ) (number : ℕ) (left : List ℕ) : Type 0 where
   pub numbered : number ≡ fresh_number img (length old)
   pub over : left ≡ fresh_over img old
 
--- ---- bytes of a state that a call changes: only a call that makes a cycle does
+-- ---- steps and runs
+-- what the bytes of a state hold after a step or a call for a cycle's line: the state s if the number is 0, else what they held before
 unfoldable pub state_left : ℕ → State → List ℕ → List ℕ
 state_left number s bytes = state_bytes s if eqb number 0 else bytes
 
+-- what a call for a step has done, on the state that bytes are
 pub record StepCall
     (img bytes : List ℕ) (word : ℕ) (letters : List ℕ) (values : List ℤ) (number : ℕ) (left letters_left : List ℕ) (values_left : List ℤ)
     : Type 0 where
@@ -42,30 +47,34 @@ pub record StepCall
   pub lettered : letters_left ≡ letters_written img (state_in bytes) word letters values
   pub valued : values_left ≡ values_written img (state_in bytes) word letters values
 
--- a run that is refused at its first word, or before, changes nothing
+-- what a call for a run has done, on the state that bytes are: a run that is refused at its first word, or before, changes nothing
 pub record RunCall (img bytes words : List ℕ) (number steps : ℕ) (left : List ℕ) : Type 0 where
   pub numbered : number ≡ (run_answer img (state_in bytes) words).number
   pub counted : steps ≡ (run_answer img (state_in bytes) words).steps
   pub changed : left ≡ (bytes if eqb steps 0 else state_bytes (run_answer img (state_in bytes) words).state)
 
 -- ---- lines of a trace
+-- what a call for a cycle's line has done, on the state that bytes are
 pub record LineCall (img bytes : List ℕ) (word : ℕ) (out : List ℕ) (number long : ℕ) (left out_left : List ℕ) : Type 0 where
   pub numbered : number ≡ (line_answer img (state_in bytes) word out).number
   pub measured : long ≡ (line_answer img (state_in bytes) word out).length
   pub changed : left ≡ state_left number (state_after img word (state_in bytes)) bytes
   pub over : out_left ≡ line_over img (state_in bytes) word out
 
+-- what a call for the closing line has done, on the state that bytes are
 pub record ClosingCall (img bytes out : List ℕ) (number long : ℕ) (out_left : List ℕ) : Type 0 where
   pub numbered : number ≡ (closing_answer img (state_in bytes) out).number
   pub measured : long ≡ (closing_answer img (state_in bytes) out).length
   pub over : out_left ≡ closing_over img (state_in bytes) out
 
+-- what a call for a line of a given text has done
 pub record TextCall (text out : List ℕ) (number long : ℕ) (out_left : List ℕ) : Type 0 where
   pub numbered : number ≡ (write_told (written_answer text out)).number
   pub measured : long ≡ (write_told (written_answer text out)).length
   pub over : out_left ≡ written_over text out
 
--- ---- a bench, on the row that bytes are
+-- ---- a bench
+-- what a call for a bench has done, on the row that bytes are: the incoming link is handed as a bit and a value
 pub record BenchCall
     (row : List Station) (bytes : List ℕ) (valid : Bool) (value : ℤ) (stop : Bool) (number letter : ℕ) (shown : ℤ) (taken : Bool) (left : List ℕ)
     : Type 0 where

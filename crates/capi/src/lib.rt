@@ -4,6 +4,17 @@
 //
 // Each answers 0, or the number that refuses the call. What it answers beside that it stores through
 // its last references.
+//
+// A function reads the state or the records out of the bytes (`decode`), calls the crate that does the
+// work, and writes them back if the call was accepted (`encode`). Nothing is judged here: bytes of a
+// wrong length are read as a state or a record that fits nothing, so that number 21, its place in the
+// order, and all that a refusal leaves come from the crates below. The contracts are their definitions
+// on `state_in bytes`, `record_in bytes` and `row_in bytes`.
+//
+// That readers and writers agree is said by none of the ten contracts: two wrong ones would fit each
+// other. `state_back` says it (proofs/Back.antt of `layout`): a reader does not mind what stands
+// before its place (`node_behind`) and finds what was written there (`node_front`); `each_back` makes
+// of these two that it finds each of a list of records.
 #![tactic(auto)]
 
 ghost use Rattle.std.specs.Prelude.{[], ◌∷◌, ◌≡◌, length};
@@ -19,29 +30,30 @@ use bench::Answer;
 use refusal::Refusal;
 use state::State;
 
-// The number that C is told.
+// The number that C is told of an answer, 0 if it is no refusal.
 fn number<T: Copy>(answer: Result<T, Refusal>) -> u8
     ensures { result ≡ number_of answer }
 {
     stop_number(answer.err())
 }
 
-// What refused a call or stopped a run, if anything did, as C is told it.
+// The number that C is told of what refused a call or stopped a run, 0 if nothing did.
 fn stop_number(stopped: Option<Refusal>) -> u8
     ensures { result ≡ number_if stopped }
 {
     stopped.map_or(0, Refusal::number)
 }
 
-// Judges an image.
+// Returns 0 if an image is accepted, else the first of 1 to 11 that it has a cause for.
 pub fn channel_bench_judge(image: &[u8]) -> u8
     ensures { result ≡ judge image.now }
 {
     number(verdict::judge(image))
 }
 
-// Writes an image's fresh state, or zeros if the image is refused, to the first bytes of `state`; if
-// there are too few, nothing, and the number is 13 if it is none of the judge's.
+// Returns 0, given an image and as many bytes as a state has, and leaves the image's fresh state in the
+// first bytes of `state`. Refused by 1 to 11, and then leaves zeros there; where there are fewer bytes
+// nothing is written, and the number is 13 if it is none of these.
 pub fn channel_bench_fresh(image: &[u8], state: &mut [u8]) -> u8
     ensures { FreshCall image.now state.old result state.new }
 {
@@ -55,7 +67,9 @@ pub fn channel_bench_fresh(image: &[u8], state: &mut [u8]) -> u8
     }
 }
 
-// One cycle with a stall word: `state` is changed in place, and the letters and values of the cycle are
+// Returns 0, given an image, a state that fits it, a stall word and arrays of at least C places, and
+// leaves the state after one cycle in `state`, and the C letters and the C values of the cycle in the
+// first places of `letters` and `values`. Refused by 1 to 11, then by 21, 22, 12 and 13: then nothing is
 // written.
 pub fn channel_bench_step(
     image: &[u8],
@@ -72,8 +86,9 @@ pub fn channel_bench_step(
     }
 }
 
-// A cycle for each word in order, up to the first that is refused: `state` is changed in place, and
-// `steps` is how many were made.
+// Returns 0, given an image, a state that fits it and stall words, and leaves the state after one cycle
+// for each word, in order, in `state`, and how many cycles were made in `steps`. Refused by 1 to 11 and
+// then 21 once, and by 22 and then 12 before each word: the cycles before that word are made.
 pub fn channel_bench_run(image: &[u8], state: &mut [u8], words: &[u64], steps: &mut u32) -> u8
     ensures { RunCall image.now state.old words.now result steps.new state.new }
 {
@@ -87,7 +102,9 @@ pub fn channel_bench_run(image: &[u8], state: &mut [u8], words: &[u64], steps: &
     number
 }
 
-// Writes the strict system's values in a cycle.
+// Returns 0, given an image, a cycle up to 1,000,000 and at least N places, and leaves the strict values
+// of all N nodes in that cycle in the first places of `values`. Refused by 1 to 11, then by 14 for a
+// later cycle and by 13 for fewer places: then nothing is written.
 pub fn channel_bench_strict(image: &[u8], cycle: u32, values: &mut [i32]) -> u8
     ensures value { result ≡ strict_number image.now cycle (length values.old) }
     ensures values_after { values.new ≡ strict_written image.now cycle values.old }
@@ -95,7 +112,9 @@ pub fn channel_bench_strict(image: &[u8], cycle: u32, values: &mut [i32]) -> u8
     number(strict::strict(image, cycle, values))
 }
 
-// The first line of every trace.
+// Returns 0, given room for it, and leaves the header line, the first line of every trace, at the start
+// of `out`, and how long it is in `length`. Refused by 13 where `out` is shorter: then nothing is
+// written, and `length` is 0.
 pub fn channel_bench_header_line(out: &mut [u8], length: &mut usize) -> u8
     ensures { TextCall header out.old result length.new out.new }
 {
@@ -108,7 +127,10 @@ pub fn channel_bench_header_line(out: &mut [u8], length: &mut usize) -> u8
     0
 }
 
-// One cycle with a stall word: `state` is changed in place, and its line is written.
+// Returns 0, given an image, a state that fits it, a stall word and room for the line, and leaves the
+// state after one cycle in `state`, the cycle's line at the start of `out`, and how long it is in
+// `length`. Refused by 1 to 11, then by 21, 22 and 12, then by 13 where `out` is shorter: then nothing
+// is written, and `length` is 0.
 pub fn channel_bench_cycle_line(
     image: &[u8],
     state: &mut [u8],
@@ -128,7 +150,9 @@ pub fn channel_bench_cycle_line(
     }
 }
 
-// The closing line after a state.
+// Returns 0, given an image, a state that fits it and room for the line, and leaves the closing line
+// after that state at the start of `out`, and how long it is in `length`. Refused by 1 to 11, then by
+// 21, then by 13 where `out` is shorter: then nothing is written, and `length` is 0.
 pub fn channel_bench_closing_line(
     image: &[u8],
     state: &[u8],
@@ -147,8 +171,8 @@ pub fn channel_bench_closing_line(
     }
 }
 
-// What a bench answers, as C is told it: the number is answered and the rest stored. A bench that is refused
-// tells 0, 0 and no.
+// The number that C is told of a bench; the rest of its answer is stored. A bench that is refused tells
+// 0, 0 and no beside its number.
 #[tactic(auto, unfolding(bench::specs::Bench::refusal))]
 fn tell(answer: Result<Answer, Refusal>, letter: &mut u8, shown: &mut i32, taken: &mut bool) -> u8
     ensures { record { number = result; letter = letter.new; value = shown.new; taken = taken.new } ≡ bench_told answer }
@@ -169,7 +193,11 @@ fn tell(answer: Result<Answer, Refusal>, letter: &mut u8, shown: &mut i32, taken
     }
 }
 
-// One cycle of a station on its own, changed in place.
+// Returns 0, given a station record, the incoming link as a bit and a value, and the stop below, and
+// leaves the station after one cycle in `station`, the letter and value of the leaving link in `letter`
+// and `shown`, and whether the incoming token was taken in `taken`. Refused by 21 where the record is
+// not whole, its count is over 2 or an unused token is not 0: then the record stays, and 0, 0 and no are
+// stored.
 pub fn channel_bench_station(
     station: &mut [u8],
     valid: bool,
@@ -190,7 +218,11 @@ pub fn channel_bench_station(
     number
 }
 
-// One cycle of a row of stations on its own, changed in place.
+// Returns 0, given a row of station records, the first nearest to the incoming link, that link as a bit
+// and a value, and the stop below, and leaves the row after one cycle in `row`, the letter and value of
+// the leaving link in `letter` and `shown`, and whether the incoming token was taken in `taken`. Refused
+// by 15 for no records or over 8, then by 21 for a record that is not whole, has a count over 2 or a
+// nonzero unused token: then the row stays, and 0, 0 and no are stored.
 pub fn channel_bench_row(
     row: &mut [u8],
     valid: bool,

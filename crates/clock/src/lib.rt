@@ -1,5 +1,15 @@
-// Cycles, one after another: which inputs are ready (data validation), which nodes are held back (back pressure),
-// which nodes fire (clock gating), and then every token that passes moves on.
+// Cycles, one after another: which inputs are ready (data validation), which nodes are held back (back
+// pressure), which nodes fire (clock gating), and then every token that passes moves on.
+//
+// A cycle has the parts of a shell's cycle, each a loop with its comment: data validation and back
+// pressure over the channels, clock gating over the nodes, and the move over the channels with their
+// rows. The first two share a loop because both look at the two ends of a channel; they write to
+// arrays of their own. Every part reads the state at the start of the cycle, `old`, and writes to `s`:
+// no part can see what another has changed, and each loop's invariant is one equation about `old`.
+//
+// It is one function because a state that is handed on is copied (docs/PERFORMANCE.md). What it calls
+// is small: the leaves of `pearl`, `relay` and `shell`, `fired` and `stalls`. The image is decoded
+// once a call, into wires (`wires_of`) and kinds (`node::kinds_of`).
 #![tactic(auto)]
 
 ghost use Rattle.std.specs.Prelude.{◌≡◌, suc, ◌+◌, ◌<◌, ◌≤◌, length};
@@ -15,7 +25,8 @@ use netlist::Netlist;
 use pearl::Kind;
 use state::{Node, State};
 
-// Bit n of a stall word. A node's number is below 64 by what a netlist promises; here a shift asks for it.
+// Whether bit n of a stall word is set. A node's number is below 64 by what a netlist promises; here a
+// shift asks for it.
 fn stalls(word: u64, n: usize) -> bool
     requires { n < 64 }
     ensures { result ≡ stalled word n }
@@ -23,8 +34,9 @@ fn stalls(word: u64, n: usize) -> bool
     (word >> n) % 2 == 1
 }
 
-// A node that fires, from what its ports bring. At most 1,000,000 is asked here, at `cycles` and of a run's
-// words: of firings, of a sum and of a cycle count. That is no one value, so no struct has it.
+// A node after it has fired, given what its ports bring. At most 1,000,000 is asked here, at `cycles`
+// and of a run's words: of firings, of a sum and of a cycle count. That is no one value, so no struct
+// has it.
 fn fired(node: Node, kind: Kind, a: i32, b: i32, c: i32) -> Node
     requires { node.firings < 1000000 }
     ensures { result ≡ record { value = next_value (kind_byte kind) node.value a b c; firings = suc node.firings } }
@@ -35,11 +47,12 @@ fn fired(node: Node, kind: Kind, a: i32, b: i32, c: i32) -> Node
     }
 }
 
-// The fields of all channels. By index, since the netlist is asked for each channel by its number.
+// The wires of all channels, zeros past the last. By index, since the netlist is asked for each channel
+// by its number.
 fn wires_of(netlist: Netlist) -> [Wire; 96]
     ensures { result ≡ wires_below netlist.entry.image.now (channels netlist.entry.image.now) }
 {
-    // By hand: only this array wants a channel of zeros, and its definition names them.
+    // By hand: only this array wants a wire of zeros, and its definition names them.
     let none = Wire {
         from: 0,
         to: 0,
@@ -54,18 +67,19 @@ fn wires_of(netlist: Netlist) -> [Wire; 96]
     wires
 }
 
-// The state after the cycles of these words. Each cycle is worked from the state at its start, `old`,
+// Returns the state after one cycle for each of `words`, in order, given a state that fits the netlist's
+// image and no more words than cycles are left. Each cycle is worked from the state at its start, `old`,
 // and written to `s`. It is one function because a state that is handed to another is copied, which
-// costs a tenth of the cycle each time (docs/PERFORMANCE.md). For the same reason the fields of a channel
-// are taken out in both loops over the channels, and once more in
-// `readings`. Netlist and state are no struct that
-// says that they fit: `fitted` of the engine would answer a state of 13 kB in a `Result`, beside its caller's own.
-// What is decoded of the netlist stands beside the state's arrays: it is the same in every cycle.
+// costs a tenth of the cycle each time (docs/PERFORMANCE.md). For the same reason a wire's fields are
+// taken out in both loops over the channels, and once more in `readings`. Netlist and state are no
+// struct that says that they fit: `fitted` of the engine would answer a state of 13 kB in a `Result`,
+// beside its caller's own. What is decoded of the netlist stands beside the state's arrays: it is the
+// same in every cycle.
 //
-// The loops go by index: each turn reads and writes several arrays, at places that it works out. Starved,
-// blocked and firing nodes have arrays of their own, since a channel marks one node as starved and another
-// as blocked. What the inputs bring stands flat, port p of node n at place 3 * n + p, as the judge's marks
-// and the strict run's feeders do: one law of ports serves all three.
+// The loops go by index: each turn reads and writes several arrays, at places that it works out.
+// Starved, blocked and firing nodes have arrays of their own, since a channel starves one node and
+// blocks another. What the inputs bring stands flat, port p of node n at place 3 * n + p, as the judge's
+// fed ports and the strict run's feeders do: one law of ports serves all three.
 pub fn cycles(netlist: Netlist, state: State, words: &[u64]) -> State
     requires fitting { Fitting netlist.image.now state }
     requires words_bound { state.cycles + length words.now ≤ 1000000 }
@@ -119,7 +133,7 @@ pub fn cycles(netlist: Netlist, state: State, words: &[u64]) -> State
                 fires[n] = true;
             }
         }
-        // What passes moves on.
+        // Every token that passes moves on.
         for c in 0..channels {
             let wire = wires[c];
             let from = wire.from as usize;
@@ -133,7 +147,8 @@ pub fn cycles(netlist: Netlist, state: State, words: &[u64]) -> State
             if 0 < length {
                 stop = old.stations[8 * c].full();
             }
-            // Behind the branch above: beside the load of its value this choice becomes a jump, a fifth slower.
+            // Behind the branch above: beside the load of its value this choice becomes a jump, a fifth
+            // slower.
             let mut link = pending.then_some(node.value);
             for j in 0..length {
                 let station = old.stations[8 * c + j];

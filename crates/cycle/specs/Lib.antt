@@ -1,4 +1,4 @@
--- One cycle of a netlist. A file NAME defines, and NAMELaws proves what others use instead of the definition's text.
+-- Defines what one cycle makes of a state, and each channel's letter and value in it.
 pub mod Cycle
 pub mod Laws
 pub mod Loops

@@ -1,7 +1,8 @@
 // A state and station records from bytes, at the places that the C interface gives them
-// (`include/channel_bench.h`). A reader is given a place with all its bytes behind it. One that is given a
-// chunk of its own size would be no plainer: the definitions name places (`layout`'s specs/Bytes.antt), and nodes,
-// stations and queues would each need a law that takes a chunk to its place.
+// (`include/channel_bench.h`). A reader is given a place with all its bytes behind it. One that is given
+// a chunk of its own size would be no plainer: the definitions name places (`layout`'s
+// specs/Bytes.antt), and nodes, stations and queues would each need a law that takes a chunk to its
+// place.
 #![tactic(auto)]
 
 ghost use Rattle.std.specs.Prelude.{◌≡◌, ◌+◌, ◌*◌, ◌≤◌, length, get_or};
@@ -53,8 +54,8 @@ fn queue_in(bytes: &[u8], at: usize) -> Queue
     }
 }
 
-// The parts of a state. Four functions and no generic one: each is one call of `from_fn`, and its contract
-// names the place and the size of its part.
+// The parts of a state. Four functions and no generic one: each is one call of `from_fn`, and its
+// contract names the place and the size of its part.
 fn nodes_in(bytes: &[u8]) -> [Node; 64]
     requires { 516 ≤ length bytes.now }
     ensures { result ≡ table (λ n. node_in bytes.now (4 + 8 * n)) 64 }
@@ -83,8 +84,8 @@ fn queues_in(bytes: &[u8]) -> [Queue; 96]
     array::from_fn(|c| queue_in(bytes, 7524 + 33 * c))
 }
 
-// What bytes that are no state are read as: one that fits no image. An `Option` would be no plainer: each
-// call would say once more which numbers come before 21.
+// What bytes that are no state are read as: a state that fits no image. An `Option` would be no plainer:
+// each call would say once more which numbers come before 21.
 fn no_state() -> State
     ensures { result ≡ no_state }
 {
@@ -93,7 +94,8 @@ fn no_state() -> State
     state
 }
 
-// The state that bytes are.
+// Returns the state that bytes are read as: one that fits no image if they have another length than a
+// state's.
 pub fn state_in(bytes: &[u8]) -> State
     ensures { result ≡ state_in bytes.now }
 {
@@ -109,7 +111,8 @@ pub fn state_in(bytes: &[u8]) -> State
     }
 }
 
-// What bytes that are no record are read as: one that fits no bench, for the same reason.
+// What bytes that are no record are read as: a record that fits no bench. No `Option`, for the reason of
+// `no_state`.
 fn no_record() -> Station
     ensures { result ≡ no_record }
 {
@@ -119,7 +122,8 @@ fn no_record() -> Station
     }
 }
 
-// The record that bytes are.
+// Returns the station record that bytes are read as: one that fits no bench if they have another length
+// than a record's.
 pub fn record_in(bytes: &[u8]) -> Station
     ensures { result ≡ record_in bytes.now }
 {
@@ -129,7 +133,7 @@ pub fn record_in(bytes: &[u8]) -> Station
     station_in(bytes, 0)
 }
 
-// Record i of a row.
+// Record i of the row that bytes are read as: one that fits no bench if it is not whole.
 fn row_record(bytes: &[u8], i: usize) -> Station
     requires { i ≤ 7 }
     ensures { result ≡ row_record bytes.now i }
@@ -140,14 +144,14 @@ fn row_record(bytes: &[u8], i: usize) -> Station
     station_in(bytes, RECORD * i)
 }
 
-// How many records bytes are, the last of them whole or not.
+// Returns how many records bytes are read as, the last of them whole or not.
 pub fn record_count(bytes: &[u8]) -> usize
     ensures { result ≡ record_count bytes.now }
 {
     (bytes.len() + 8) / RECORD
 }
 
-// The first eight records of a row, whether or not it has so many.
+// Returns the first eight records of the row that bytes are read as, whether or not it has so many.
 pub fn row_in(bytes: &[u8]) -> Row
     ensures { result.stations ≡ table (row_record bytes.now) 8 }
 {

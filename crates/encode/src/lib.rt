@@ -1,10 +1,16 @@
-// A state and station records as bytes, written to the first places of what is lent. A writer of a part is given a
-// place with enough room behind it; the answer is the place after the part.
+// A state and station records as bytes, written to the first places of what is lent. A writer of a part
+// is given a place with enough room behind it; the answer is the place after the part.
+//
+// Both writers are total: they answer how many bytes were written, or 13 where too few are lent, and
+// then write nothing (`WriteDone`, as the lines of a trace do). They store part by part with `Put`,
+// each part from the place after the one before. What they write has the same length for every state,
+// since the definitions count places and not the elements of a list (`each node_bytes (node_at s)
+// 64`): no fact about a state is needed to say where a part stands.
 #![tactic(auto)]
 
 ghost use mathlib.Core.List.{flat_map, ◌++◌};
 ghost use Rattle.std.specs.Prelude.{[], ◌∷◌, ◌≡◌, ◌+◌, ◌≤◌, length};
-ghost use Rattle.writer.specs.Loops.Put.{Put};
+ghost use Rattle.writer.specs.Put.{Put};
 ghost use Rattle.writer.specs.Write.{WriteDone};
 ghost use Rattle.layout.specs.Bytes.{number_bytes, token_bytes, node_bytes, station_bytes, queue_bytes, state_bytes, state_length};
 
@@ -15,10 +21,10 @@ use shell::Queue;
 use state::{Node, State};
 use writer::Text;
 
-// Numbers of 32 bits.
-struct Words;
+// Numbers of 32 bits as bytes.
+struct Numbers;
 
-impl Text<u32> for Words {
+impl Text<u32> for Numbers {
     ghost text = { number_bytes };
 
     fn put(item: u32, out: &mut [u8], at: usize) -> usize {
@@ -26,14 +32,14 @@ impl Text<u32> for Words {
     }
 }
 
-// Tokens.
+// Tokens as bytes.
 struct Tokens;
 
 impl Text<i32> for Tokens {
     ghost text = { token_bytes };
 
     fn put(item: i32, out: &mut [u8], at: usize) -> usize {
-        Words::put(item.cast_unsigned(), out, at)
+        Numbers::put(item.cast_unsigned(), out, at)
     }
 }
 
@@ -44,12 +50,12 @@ impl Text<Node> for Nodes {
 
     fn put(item: Node, out: &mut [u8], at: usize) -> usize {
         let firings = Tokens::put(item.value, out, at);
-        Words::put(item.firings, out, firings)
+        Numbers::put(item.firings, out, firings)
     }
 }
 
-// Tokens, and then how many of them are held.
-#[tactic(auto, using(writer::specs::Loops::PutLaws::put_steps))]
+// Stores tokens, and then how many of them are held, and tells the place after them.
+#[tactic(auto, using(writer::specs::Laws::Put::put_steps))]
 fn put_counted(tokens: &[i32], count: u8, out: &mut [u8], at: usize) -> usize
     requires { at + length (flat_map token_bytes tokens.now ++ (count ∷ [])) ≤ length out.old }
     ensures { Put (flat_map token_bytes tokens.now ++ (count ∷ [])) at out.old out.new result }
@@ -81,7 +87,7 @@ impl Text<Queue> for Queues {
     }
 }
 
-// The parts of a state, one after another.
+// Stores the parts of a state, one after another, and tells the place after them.
 fn put_parts(state: State, out: &mut [u8]) -> usize
     requires { state_length ≤ length out.old }
     ensures { Put (state_bytes state) 0 out.old out.new result }
@@ -90,14 +96,15 @@ fn put_parts(state: State, out: &mut [u8]) -> usize
     let pending = state.pending;
     let stations = state.stations;
     let queues = state.queues;
-    let first = Words::put(state.cycles, out, 0);
+    let first = Numbers::put(state.cycles, out, 0);
     let second = writer::put_all::<Nodes, Node>(&nodes, out, first);
     let third = writer::put_bytes(&pending, out, second);
     let fourth = writer::put_all::<Stations, Station>(&stations, out, third);
     writer::put_all::<Queues, Queue>(&queues, out, fourth)
 }
 
-// A state. Answers how many bytes it takes, and writes nothing where fewer are lent.
+// Returns how many bytes a state takes, and leaves it at the start of `out`, given room for it. Refused
+// by 13 where fewer bytes are lent: then nothing is written.
 pub fn put_state(state: State, out: &mut [u8]) -> Result<usize, Refusal>
     ensures { WriteDone (state_bytes state) out.old result out.new }
 {
@@ -107,7 +114,8 @@ pub fn put_state(state: State, out: &mut [u8]) -> Result<usize, Refusal>
     Ok(put_parts(state, out))
 }
 
-// Station records, one after another. Answers how many bytes they take, and writes nothing where fewer are lent.
+// Returns how many bytes station records take, and leaves them at the start of `out`, one after another,
+// given room for them. Refused by 13 where fewer bytes are lent: then nothing is written.
 pub fn put_records(records: &[Station], out: &mut [u8]) -> Result<usize, Refusal>
     ensures { WriteDone (flat_map station_bytes records.now) out.old result out.new }
 {

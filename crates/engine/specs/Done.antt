@@ -5,7 +5,7 @@ use Rattle.state.specs.declared.State.{State}
 use Rattle.state.specs.Told.{Told}
 use Rattle.engine.specs.Answer.{step_answer, letters_written, values_written, RunTold, run_answer}
 
--- a step that was lent arrays that held `letters` and `values`, and hold `letters_left` and `values_left` after it
+-- what a step has done that was lent arrays that held `letters` and `values`, and hold `letters_left` and `values_left` after it
 pub record StepDone
     (img : List ℕ) (s : State) (word : ℕ) (letters : List ℕ) (values : List ℤ) (answer : Told) (letters_left : List ℕ) (values_left : List ℤ)
     : Type 0 where
@@ -13,6 +13,6 @@ pub record StepDone
   pub lettered : letters_left ≡ letters_written img s word letters values
   pub valued : values_left ≡ values_written img s word letters values
 
--- a run
+-- what a run has done
 pub record RunDone (img : List ℕ) (s : State) (words : List ℕ) (answer : RunTold) : Type 0 where
   pub answered : answer ≡ run_answer img s words

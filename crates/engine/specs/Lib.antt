@@ -1,4 +1,4 @@
--- The step and the run. A file NAME defines, and NAMELaws proves what others use instead of the definition's text.
+-- Defines what a step and a run answer, and what they have done to what they were lent.
 pub mod Answer
 pub mod Done
 pub mod Laws

@@ -1,20 +1,26 @@
 // The cycle engine: one step of a state, and a run over a list of stall words.
+//
+// `step` asks `admitted` for the netlist or a refusal; then it writes the letters and values
+// (`readings::show`) and makes one cycle. `run` asks `fitted` (the judge, then 21), finds out how many
+// words it takes and what ends them (`words_taken`: 22 and 12 before each word), and makes their
+// cycles. Both make them by one function, `clock::cycles`. That and `show` ask something of their
+// caller, a state that fits the netlist; no call that is made here from outside does.
 #![tactic(auto)]
 
 ghost use Rattle.std.specs.Prelude.{◌≡◌, ◌≤◌, IfOk};
 ghost use Rattle.refusal.specs.Number.{number_of};
 ghost use Rattle.state.specs.Told.{told};
 ghost use Rattle.fitting.specs.Fitting.{Fitting};
-ghost use Rattle.engine.specs.Answer.{sets_above, step_number, run_told};
-ghost use Rattle.engine.specs.Loops.Taken.{state_number, taken_told, taken_from};
+ghost use Rattle.engine.specs.Answer.{sets_above, step_number, run_told, state_number};
+ghost use Rattle.engine.specs.Loops.Taken.{taken_told, taken_from};
 ghost use Rattle.engine.specs.Done.{StepDone, RunDone};
 
 use netlist::Netlist;
 use refusal::Refusal;
 use state::{Refused, State};
 
-// What a run answers: the steps done, the state after them, and what stopped it, if it did not come to
-// the end of its words.
+// A run's answer: the steps done, the state after them, and what stopped it, if it did not come to the
+// end of its words.
 #[derive(Clone, Copy)]
 pub struct Ran {
     pub steps: u32,
@@ -29,17 +35,18 @@ struct Taken {
     stopped: Option<Refusal>,
 }
 
-// Whether a word sets a bit at or above n.
+// Returns whether a stall word sets a bit at or above n.
 pub fn sets_above(word: u64, n: u8) -> bool
     ensures { result ≡ sets_above n word }
 {
     word.checked_shr(u32::from(n)).is_some_and(|rest| rest != 0)
 }
 
-// The netlist of an image that a state fits: the judge's refusals, and then 21. The state comes by value:
-// behind a reference an array's length is known only where a part of it is taken. Image and state are two
-// parameters here, as C hands them over, and that they fit is asked of no caller. The clauses `number` and `same` stand
-// at each function that answers a netlist: they tie what it answers to the image that it was handed.
+// Returns the netlist of an image, given a state that fits it. Refused by 1 to 11, then by 21 where the
+// state does not fit. The state comes by value: behind a reference an array's length is known only where
+// a part of it is taken. Image and state are two parameters here, as C hands them over, and that they
+// fit is asked of no caller. The clauses `number` and `same` stand at each function that answers a
+// netlist: they tie what it answers to the image that it was handed.
 pub fn fitted<'a>(image: &'a [u8], state: State) -> Result<Netlist<'a>, Refusal>
     ensures number { number_of result ≡ state_number image.entry.now state }
     ensures same { IfOk result (λ netlist. netlist.image ≡ image.entry) }
@@ -52,7 +59,8 @@ pub fn fitted<'a>(image: &'a [u8], state: State) -> Result<Netlist<'a>, Refusal>
     Ok(netlist)
 }
 
-// The netlist for a step that is lent arrays of so many places.
+// The netlist for a step that is lent arrays of so many places. Refused by 1 to 11, then by 21, 22, 12
+// and 13.
 fn admitted<'a>(
     image: &'a [u8],
     state: State,
@@ -79,7 +87,8 @@ fn admitted<'a>(
     Ok(netlist)
 }
 
-// The words that a run takes: 22 and 12 are looked for before each.
+// Which of `words` a run takes, given how many nodes there are and how many cycles were made: 22 and 12
+// are looked for before each.
 fn words_taken(nodes: u8, cycles: u32, words: &[u64]) -> Taken
     requires { cycles ≤ 1000000 }
     ensures { taken_told result ≡ taken_from nodes cycles words.now }
@@ -105,10 +114,10 @@ fn words_taken(nodes: u8, cycles: u32, words: &[u64]) -> Taken
     }
 }
 
-// One cycle with a stall word: the state after the cycle, and the C letters and the C values of the cycle
-// in the first places of `letters` and `values`. A refused step hands back the state that it was handed,
-// and writes nothing. It is refused by the judge, then for 21, 22, 12 and 13. Letters and values are two
-// lent arrays, as C lends them.
+// Returns the state after one cycle with a stall word, given an image, a state that fits it and arrays
+// of at least C places, and leaves the C letters and the C values of the cycle in their first places.
+// Refused by 1 to 11, then by 21, 22, 12 and 13: then the state that was handed in is returned, and
+// nothing is written. Letters and values are two lent arrays, as C lends them.
 // Where this is inlined LLVM takes the states apart into single numbers, and builds for minutes.
 #[inline(never)]
 pub fn step(
@@ -127,9 +136,9 @@ pub fn step(
     Ok(clock::cycles(netlist, state, &[word]))
 }
 
-// A cycle for each of the words, in order, up to the first that is refused. It answers how many it
-// made, the state after them, and what stopped it. The image and number 21 are looked at once, 22 and 12
-// before each word.
+// Returns the steps done, the state after them and what stopped the run, given an image, a state that
+// fits it and stall words: one cycle for each, in order, up to the first that is refused. Refused by 1
+// to 11 and then 21 once, before the first word, and by 22 and then 12 before each word.
 pub fn run(image: &[u8], state: State, words: &[u64]) -> Ran
     ensures { RunDone image.now state words.now (run_told result) }
 {

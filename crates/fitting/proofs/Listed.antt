@@ -46,18 +46,18 @@ module _ {A : Type 0} (test : A → Bool) (d : A) where
       rw (drop_of_length-le l none) (sym (all_from (λ i. ltb i n || test (get_or l i d)) m (λ i h. rw (lt-ltb i n (omega (arith, g, h)))))))
       (lt-or-ge n m)
 
-  -- the same, as a part up to the end
+  -- a test of the elements behind the first n, as a part up to the end of the list
   pub behind : (l : List A) (n m : ℕ) → length l ≡ m → list_all test (take (m - n) (drop n l)) ≡ all_below (λ i. ltb i n || test (get_or l i d)) m
   behind l n m long =
       ap (list_all test) (take_all (m - n) (drop n l) (rw length-drop (omega (arith, long)))) ∙ rest l n m long
 
-  -- a part of the list
+  -- a test of a part of the list, element by element
   pub part : (l : List A) (a n : ℕ) → a + n ≤ length l → list_all test (take n (drop a l)) ≡ all_below (λ i. test (get_or l (a + i) d)) n
   part l a n h =
       front (drop a l) n (rw length-drop (omega (arith, h)))
       ∙ all_same (λ i. test (get_or (drop a l) i d)) (λ i. test (get_or l (a + i) d)) n (λ i k. rw get_or-drop)
 
-  -- the places of a part from its place n on
+  -- a test of a part of the list from its place n on, element by element
   pub part_rest :
       (l : List A) (a n m : ℕ) → n ≤ m → a + m ≤ length l
       → list_all test (take (m - n) (drop (a + n) l)) ≡ all_below (λ i. ltb i n || test (get_or l (a + i) d)) m
@@ -68,7 +68,7 @@ module _ {A : Type 0} (test : A → Bool) (d : A) where
       (λ i q. let e : a + n + i ≡ a + (n + i) = omega arith in rw e)
       ∙ rw sum at (from_n (λ i. test (get_or l (a + i) d)) n (m - n))
 
--- how many tokens the stations of a part hold
+-- how many tokens the stations of a part of an array hold
 pub counted_part :
     (l : List Station) (a n : ℕ) → a + n ≤ length l → counted (take n (drop a l)) ≡ sum_below (λ j. (get_or l (a + j) no_station).count) n
 unfolding counted

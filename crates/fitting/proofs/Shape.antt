@@ -30,7 +30,7 @@ element R P f (x ∷ l) [] g i d h = absurd g
 element R P f (x ∷ l) (u ∷ us) g zero d h = f x (u ∷ []) g.0
 element R P f (x ∷ l) (u ∷ us) g (suc i) d h = element R P f l us g.1 i d (le_of_suc-le-suc h)
 
--- the places of a station and of a queue
+-- a station has two places, and a queue eight
 station_long : (x : Station) (vs : List Val) → shadow ((station.the_row).own_val x vs) → length x.tokens ≡ 2
 station_long x vs g = g.1.1.0.1.0.1
 

@@ -1,6 +1,5 @@
--- Number 21. A file NAME defines, and NAMELaws proves what others use instead of the definition's text.
+-- Number 21: whether a state fits an image, and what holds of a state that does.
 pub mod Fits
--- a state that fits, as facts
 pub mod Fitting
 pub mod Laws
 pub mod Loops

@@ -1,3 +1,3 @@
--- What only loops hold.
+-- What only the contracts of inner functions and their loops say.
 pub mod Passes
 pub mod PassesLaws

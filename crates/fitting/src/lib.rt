@@ -1,4 +1,7 @@
 // Number 21: whether a state fits an accepted image.
+//
+// Three passes: over the nodes, over the channels of the image with their balance, and over the places
+// that nothing uses.
 #![tactic(auto)]
 
 mod passes;
@@ -9,7 +12,7 @@ ghost use Rattle.fitting.specs.Fits.{fits};
 use netlist::Netlist;
 use state::State;
 
-// Whether a state fits an accepted image.
+// Returns whether a state fits an accepted image, given both: number 21 refuses one that does not.
 pub fn fits(netlist: Netlist, state: &State) -> bool
     ensures { result ≡ fits netlist.entry.image.now state.now }
 {

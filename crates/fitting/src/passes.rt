@@ -10,8 +10,9 @@ use relay::{Row, Station};
 use shell::Queue;
 use state::{Node, State};
 
-// Whether a node that is not there is 0 throughout. Place by place, here and in the next three: the definition
-// of number 21 names the places, and a derived `==` would want a law for each type that takes it to them.
+// Whether a node is 0 throughout, as one that is not there. Place by place, as for stations and queues
+// below: the definition of number 21 names the places, and a derived `==` would want a law for each type
+// that takes it to them.
 #[tactic(auto, using(laws::specs::Laws::Signed::zero_bits), unfolding(crate::specs::Loops::Passes::empty_node))]
 fn empty_node(node: Node) -> bool
     ensures { result ≡ empty_node node }
@@ -19,7 +20,7 @@ fn empty_node(node: Node) -> bool
     (node.value == 0) & (node.firings == 0)
 }
 
-// Whether a station that is not there holds no token, and is 0 throughout.
+// Whether a station holds no token and is 0 throughout, as one that is not there.
 #[tactic(auto, unfolding(crate::specs::Loops::Passes::empty_station))]
 fn empty_station(station: Station) -> bool
     ensures { result ≡ empty_station station }
@@ -35,7 +36,7 @@ fn clear_queue(queue: Queue) -> bool
     queue.tokens.iter().skip(count).all(|token| *token == 0)
 }
 
-// Whether a queue that is not there holds no token, and is 0 throughout.
+// Whether a queue holds no token and is 0 throughout, as one that is not there.
 #[tactic(auto, unfolding(crate::specs::Loops::Passes::empty_queue))]
 fn empty_queue(queue: Queue) -> bool
     ensures { result ≡ empty_queue queue }
@@ -43,7 +44,8 @@ fn empty_queue(queue: Queue) -> bool
     clear_queue(queue) & (queue.count == 0)
 }
 
-// The nodes: "firings are at most the cycle count", and places that no node uses are 0.
+// Returns whether "firings are at most the cycle count" at all nodes, and the places that no node uses
+// are 0.
 pub(crate) fn nodes_fit(netlist: Netlist, state: &State) -> bool
     ensures { result ≡ nodes_fit netlist.entry.image.now state.now }
 {
@@ -77,8 +79,8 @@ fn balanced(pending: u8, held: u16, waiting: u8, from: u32, to: u32) -> bool
     pending as u64 + held as u64 + waiting as u64 + to as u64 == from as u64 + 1
 }
 
-// A channel: "pending marks are 0 or 1; station and queue counts are within their depths", and it is
-// balanced.
+// Whether of channel c "pending marks are 0 or 1; station and queue counts are within their depths", and
+// it is balanced.
 #[tactic(auto, using(verdict::specs::Laws::Accepted::channels_few))]
 fn channel_fits(netlist: Netlist, state: &State, c: u8) -> bool
     requires { c < channels netlist.image.now }
@@ -96,13 +98,14 @@ fn channel_fits(netlist: Netlist, state: &State, c: u8) -> bool
     counts & balanced(pending, held(row), queue.count, from.firings, to.firings)
 }
 
+// Returns whether every channel of the image has what `channel_fits` tests.
 pub(crate) fn channels_fit(netlist: Netlist, state: &State) -> bool
     ensures { result ≡ channels_fit netlist.entry.image.now state.now }
 {
     (0..netlist.channels()).all(|c| channel_fits(netlist, state, c))
 }
 
-// A channel: places that no station of the image and no held token uses are 0.
+// Whether the places of channel c that no station of the image and no held token uses are 0.
 #[tactic(auto, using(verdict::specs::Laws::Accepted::channels_few))]
 fn contents_clear(netlist: Netlist, state: &State, c: u8) -> bool
     requires { c < channels netlist.image.now }
@@ -119,7 +122,7 @@ fn contents_clear(netlist: Netlist, state: &State, c: u8) -> bool
     (used & unused) & clear_queue(state.queues[usize::from(c)])
 }
 
-// Places that no channel, no station of the image and no held token uses are 0.
+// Returns whether the places that no channel, no station of the image and no held token uses are 0.
 pub(crate) fn channels_clear(netlist: Netlist, state: &State) -> bool
     ensures { result ≡ channels_clear netlist.entry.image.now state.now }
 {

@@ -13,14 +13,14 @@ channels img = get_or img 1 0
 unfoldable pub kind : List ℕ → ℕ → ℕ
 kind img n = get_or img (2 + n) 0
 
--- "and N parameters of 4 bytes, signed two's complement, low byte first."
+-- "and N parameters of 4 bytes, signed two's complement, low byte first.": the number of the four bytes from a place on
 abbrev pub four_bytes : List ℕ → ℕ → ℕ
 four_bytes img at = get_or img at 0 + 2 ^ 8 * get_or img (at + 1) 0 + 2 ^ 16 * get_or img (at + 2) 0 + 2 ^ 24 * get_or img (at + 3) 0
 
 unfoldable pub parameter : List ℕ → ℕ → ℤ
 parameter img n = signed (four_bytes img (2 + nodes img + 4 * n))
 
--- "Then two parallel arrays for channels: C wires of 3 bytes (from node, to node, input port),"
+-- "Then two parallel arrays for channels: C wires of 3 bytes (from node, to node, input port),": where that of channel c begins
 unfoldable pub wire : List ℕ → ℕ → ℕ
 wire img c = 2 + 5 * nodes img + 3 * c
 
@@ -33,11 +33,11 @@ to img c = get_or img (wire img c + 1) 0
 unfoldable pub port : List ℕ → ℕ → ℕ
 port img c = get_or img (wire img c + 2) 0
 
--- channel c feeds port p of node n
+-- whether channel c feeds port p of node n
 unfoldable pub feeds : List ℕ → ℕ → ℕ → ℕ → Bool
 feeds img n p c = eqb (to img c) n && eqb (port img c) p
 
--- "and C depths of 2 bytes (stations 0 to 8, queue 1 to 8)."
+-- "and C depths of 2 bytes (stations 0 to 8, queue 1 to 8).": where those of channel c begin
 unfoldable pub depths : List ℕ → ℕ → ℕ
 depths img c = 2 + 5 * nodes img + 3 * channels img + 2 * c
 
@@ -47,6 +47,7 @@ stations img c = get_or img (depths img c) 0
 unfoldable pub depth : List ℕ → ℕ → ℕ
 depth img c = get_or img (depths img c + 1) 0
 
--- The column "inputs" of the table of kinds: count 0; hold, total, negate and halve 1; sum, difference and larger 2; choose 3. Place 0 is no kind.
+-- how many inputs kind k has, the column "inputs" of the table of kinds: count 0; hold, total, negate and halve 1; sum, difference and larger 2;
+-- choose 3. Place 0 is no kind.
 unfoldable pub inputs : ℕ → ℕ
 inputs k = get_or (0 ∷ 0 ∷ 1 ∷ 1 ∷ 1 ∷ 1 ∷ 2 ∷ 2 ∷ 2 ∷ 3 ∷ []) k 0

@@ -1,7 +1,6 @@
--- The image. What the contracts say, and what a reader has to believe: its fields, and the records that the readers answer.
+-- The image: its fields, the records that its readers answer, and what images that differ at most in their depths have in common.
 pub mod Image
 pub mod Readers
--- For other crates: images that differ in their depths; arrays with a place for each port, which the channels fill.
 pub mod Alike
 pub mod Laws
 pub mod Loops

@@ -4,16 +4,16 @@ use Rattle.image.specs.declared.Core.{Core}
 use Rattle.image.specs.declared.Wire.{Wire}
 use Rattle.image.specs.Image.{kind, parameter, from, to, port, stations, depth}
 
--- node n's fields
+-- the fields of node n
 unfoldable pub core_at : List ℕ → ℕ → Core
 core_at img n = record { kind = kind img n; parameter = parameter img n }
 
--- channel c's fields
+-- the fields of channel c
 unfoldable pub wire_at : List ℕ → ℕ → Wire
 wire_at img c =
     record { from = from img c; to = to img c; port = port img c; stations = stations img c; depth = depth img c }
 
--- the fields of a channel that is there, in an accepted image: between nodes and at a port that have their places
+-- what the fields of a channel of an accepted image are: nodes below 64, a port below 3, at most 8 stations, and a queue of depth at most 8
 pub record Placed (w : Wire) : Type 0 where
   pub from : w.from < 64
   pub to : w.to < 64

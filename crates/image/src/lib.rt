@@ -7,8 +7,7 @@ ghost use Rattle.laws.specs.Signed.{signed};
 ghost use Rattle.image.specs.Image.{nodes, channels, kind, four_bytes};
 ghost use Rattle.image.specs.Readers.{core_at, wire_at};
 
-// A node's fields. The kind is a number, 1 to 9 in an accepted image: one that the judge has not looked at may
-// be no kind.
+// A node's fields. The kind is a number: 1 to 9 in an accepted image, any byte in another.
 #[derive(Clone, Copy)]
 pub struct Core {
     pub kind: u8,
@@ -26,14 +25,14 @@ pub struct Wire {
     pub depth: u8,
 }
 
-// The byte at a place, 0 past the end.
+// Returns the byte at a place, 0 past the image's end.
 fn byte_at(image: &[u8], at: usize) -> u8
     ensures { result ≡ get_or image.now at 0 }
 {
     image.get(at).copied().unwrap_or(0)
 }
 
-// N, 0 for an empty image.
+// Returns N, the number of nodes, given an image: 0 for an empty one.
 #[tactic(auto, unfolding(crate::specs::Image::nodes))]
 pub fn nodes(image: &[u8]) -> u8
     ensures { result ≡ nodes image.now }
@@ -41,7 +40,7 @@ pub fn nodes(image: &[u8]) -> u8
     byte_at(image, 0)
 }
 
-// C, 0 for an image under two bytes.
+// Returns C, the number of channels, given an image: 0 for one under two bytes.
 #[tactic(auto, unfolding(crate::specs::Image::channels))]
 pub fn channels(image: &[u8]) -> u8
     ensures { result ≡ channels image.now }
@@ -49,7 +48,7 @@ pub fn channels(image: &[u8]) -> u8
     byte_at(image, 1)
 }
 
-// Node n's kind.
+// Returns the number of node n's kind, 0 past the image's end.
 #[tactic(auto, unfolding(crate::specs::Image::kind))]
 pub fn kind_at(image: &[u8], n: u8) -> u8
     ensures { result ≡ kind image.now n }
@@ -57,8 +56,8 @@ pub fn kind_at(image: &[u8], n: u8) -> u8
     byte_at(image, 2 + n as usize)
 }
 
-// The four bytes at a place as a number, low byte first, each 0 past the end. For other crates: to read numbers
-// that are kept as bytes.
+// Returns the number that the four bytes from a place on stand for, low byte first, each 0 past the end.
+// For other crates: to read numbers that are kept as bytes.
 pub fn four_bytes(image: &[u8], at: usize) -> u32
     ensures { result ≡ four_bytes image.now at }
 {
@@ -74,7 +73,8 @@ pub fn four_bytes(image: &[u8], at: usize) -> u32
     u32::from_le_bytes(bytes)
 }
 
-// The signed number of the same 32 bits. For other crates: to read tokens that are kept as bytes.
+// Returns the signed number that has the 32 bits of a number. For other crates: to read tokens that are
+// kept as bytes.
 #[tactic(auto, unfolding(laws::specs::Signed::signed))]
 pub fn as_signed(n: u32) -> i32
     ensures { result ≡ signed n }
@@ -82,7 +82,7 @@ pub fn as_signed(n: u32) -> i32
     n.cast_signed()
 }
 
-// Node n's fields, each 0 past the image's end.
+// Returns node n's fields, each 0 past the image's end.
 #[tactic(auto, unfolding(crate::specs::Readers::core_at, crate::specs::Image::parameter))]
 pub fn core_at(image: &[u8], n: u8) -> Core
     ensures { result ≡ core_at image.now n }
@@ -94,7 +94,7 @@ pub fn core_at(image: &[u8], n: u8) -> Core
     }
 }
 
-// Channel c's fields, each 0 past the image's end.
+// Returns channel c's fields, each 0 past the image's end.
 #[tactic(auto, unfolding(crate::specs::Readers::wire_at, crate::specs::Image::from, crate::specs::Image::to, crate::specs::Image::port, crate::specs::Image::stations, crate::specs::Image::depth, crate::specs::Image::wire, crate::specs::Image::depths))]
 pub fn wire_at(image: &[u8], c: u8) -> Wire
     ensures { result ≡ wire_at image.now c }

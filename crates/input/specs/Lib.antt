@@ -1,2 +1,2 @@
--- What is said of an input.
+-- What holds of an input that was read to its end: how many bytes came, and how many were kept.
 pub mod Input

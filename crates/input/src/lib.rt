@@ -17,7 +17,7 @@ pub struct Input {
     pub length: u64,
 }
 
-// A read failed. `before` is what came before it.
+// A read that failed. `before` is what came before it.
 #[derive(Debug, Drop)]
 pub struct Unread {
     pub before: Input,
@@ -57,9 +57,10 @@ impl io::Write for Counter {
     }
 }
 
-// Reads standard input, or what other reader is lent, to its end, however short the reads come: the
-// first bytes into the buffer, as many as it holds; the others are only counted. A read into the
-// buffer that a signal interrupts counts as one that failed.
+// Returns what was read, given a reader, such as standard input, that is read to its end however short
+// the reads come: the first bytes are left in the buffer, as many as it holds, and the others are only
+// counted. Returns `Unread` if a read failed; a read into the buffer that a signal interrupts counts as
+// one that failed.
 pub fn read_to_end<R: io::Read>(reader: &mut R, buffer: &mut [u8]) -> Result<Input, Unread>
     ensures ok { IfOk result (λ input. Read input buffer.new) }
     ensures err { IfErr result (λ unread. Read unread.before buffer.new) }

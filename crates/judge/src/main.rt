@@ -1,6 +1,6 @@
 // Judges the image on standard input: prints `accepted`, or `refused` and the number.
 //
-// No image is longer than 802 bytes, so the first 803 decide (`verdict`'s specs/Head.antt); what
+// No image is longer than 802 bytes, so the first 803 decide (`verdict`'s specs/Laws/Head.antt); what
 // follows is read to its end all the same. Where the input cannot be read, no verdict is printed.
 #![tactic(auto)]
 

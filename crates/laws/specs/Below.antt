@@ -1,5 +1,5 @@
--- What a test or a count says of all numbers below n. Each definition goes by its last number, so that one turn of a loop that counts up is one
--- step of it.
+-- What a test or a count says of all numbers below n. Each definition goes by its last number, so that one turn of a loop that counts up is one step
+-- of the definition.
 use Rattle.std.specs.Prelude.{Bool, true, false, ◌&&◌, ◌||◌, ℕ, zero, suc, ◌+◌, max}
 use Rattle.laws.specs.Choice.{◌if◌else◌}
 

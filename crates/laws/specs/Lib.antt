@@ -1,4 +1,4 @@
--- Definitions and laws that say nothing of the bench. A file NAME defines, and NAMELaws proves what callers use instead of the definition's text.
+-- Definitions and laws that say nothing of the bench: choices, tests and counts of the numbers below n, lists, tables, stretches and signed numbers.
 pub mod Choice
 pub mod Below
 pub mod Range

@@ -5,11 +5,12 @@ use Rattle.laws.specs.Choice.{◌if◌else◌}
 use Rattle.laws.specs.Signed.{is_zero}
 
 module _ {A : Type 0} where
-  -- the list holds an element; it holds two
+  -- whether the list holds an element
   abbrev pub holds : List A → Bool
   holds [] = false
   holds (x ∷ xs) = true
 
+  -- whether the list holds two elements or more
   abbrev pub holds_two : List A → Bool
   holds_two [] = false
   holds_two (x ∷ xs) = holds xs
@@ -22,7 +23,7 @@ module _ {A : Type 0} where
   abbrev pub drop_if : Bool → List A → List A
   drop_if test xs = drop 1 xs if test else xs
 
-  -- the list with d behind it until there are n
+  -- the list with d behind it until it has n elements
   unfoldable pub padded : ℕ → A → List A → List A
   padded n d xs = xs ++ replicate (n - length xs) d
 
@@ -32,6 +33,6 @@ pub record Stored {A : Type 0} (n : ℕ) (d : A) (l : List A) (count : ℕ) : Ty
   pub long : length l ≡ n
   pub rest : (k : ℕ) → count ≤ k → get_or l k d ≡ d
 
--- the same as a test, of numbers: of an array of n places, those from `count` on are 0
+-- whether in an array of n numbers all places from `count` on are 0
 unfoldable pub zero_from : ℕ → ℕ → List ℤ → Bool
 zero_from n count l = all_below (λ i. ltb i count || is_zero (get_or l i (pos 0))) n

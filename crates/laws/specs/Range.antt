@@ -1,6 +1,6 @@
 -- A number outside a range.
 use Rattle.std.specs.Prelude.{Bool, ◌||◌, ℕ, ltb}
 
--- x is not from a to b
+-- whether x is not from a to b
 abbrev pub outside : ℕ → ℕ → ℕ → Bool
 outside a b x = ltb x a || ltb b x

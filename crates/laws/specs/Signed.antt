@@ -5,7 +5,7 @@ use Rattle.std.specs.Prelude.{Bool, false, cond, ℕ, suc, ◌-◌, ◌^◌, eqb
 unfoldable pub signed : ℕ → ℤ
 signed n = cond (ltb n (2 ^ 31)) (pos n) (negsuc (2 ^ 32 - suc n))
 
--- it is 0
+-- whether the number is 0
 abbrev pub is_zero : ℤ → Bool
 is_zero (pos n) = eqb n 0
 is_zero (negsuc n) = false

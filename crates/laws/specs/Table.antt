@@ -7,6 +7,6 @@ module _ {A : Type 0} where
   table f zero = []
   table f (suc n) = table f n ++ (f n ∷ [])
 
-  -- the same over the first n places of l: what follows them stays
+  -- the list l with f 0, f 1, .., f (n - 1) over its first n places: what follows them stays
   unfoldable pub table_over : (ℕ → A) → ℕ → List A → List A
   table_over f n l = table f n ++ drop n l

@@ -1,5 +1,5 @@
--- What is written is read back: the bytes of a state are that state. What `Typed` asks holds of every state that a function is handed or answers, by its
--- declared type.
+-- What is written is read back: the bytes of a state are that state. What `Typed` asks holds of every state that a function is handed or answers, by
+-- its declared type.
 use Rattle.std.specs.Prelude.{◌≡◌}
 use Rattle.state.specs.declared.State.{State}
 use Rattle.layout.specs.Bytes.{state_bytes, state_in}

@@ -188,7 +188,7 @@ module _ (s : State) (typed : Typed s) where
       (typed.valued n h, typed.fired n h) (number_long s.cycles))
       ∙ own s.nodes no_node 64 typed.shaped.nodes
 
-  -- what stands before the marks, the stations and the queues
+  -- what stands before the pending bytes, the stations and the queues
   before_pending : length (cycles ++ cores) ≡ 516
   before_pending = length-append cycles cores ∙ rw (number_long, each_long node_bytes 8 node_long (node_at s) 64)
 

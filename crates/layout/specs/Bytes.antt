@@ -15,19 +15,20 @@ use Rattle.state.specs.State.{node_at, pending_at, queue_at}
 use Rattle.state.specs.Fresh.{zeros}
 
 -- ---- written
--- a number of 32 bits
+-- a number of 32 bits as bytes
 unfoldable pub number_bytes : ℕ → List ℕ
 number_bytes n = n % 2 ^ 8 ∷ n / 2 ^ 8 % 2 ^ 8 ∷ n / 2 ^ 16 % 2 ^ 8 ∷ n / 2 ^ 24 % 2 ^ 8 ∷ []
 
--- the number of the same 32 bits as a signed one
+-- the number from 0 on that has the same 32 bits as a signed one
 unfoldable pub bits_of : ℤ → ℕ
 bits_of (pos n) = n
 bits_of (negsuc n) = 2 ^ 32 - suc n
 
+-- a signed number as bytes
 unfoldable pub token_bytes : ℤ → List ℕ
 token_bytes value = number_bytes (bits_of value)
 
--- a node: its value, its firings
+-- a node as bytes: its value, its firings
 unfoldable pub node_bytes : Node → List ℕ
 node_bytes n = token_bytes n.value ++ number_bytes n.firings
 
@@ -35,14 +36,15 @@ node_bytes n = token_bytes n.value ++ number_bytes n.firings
 abbrev pub each : {A : Type 0} → (A → List ℕ) → (ℕ → A) → ℕ → List ℕ
 each f g n = flat_map f (table g n)
 
--- a station and a queue: their tokens, oldest first, and how many they hold
+-- a station record as bytes: its two tokens, oldest first, and how many it holds
 unfoldable pub station_bytes : Station → List ℕ
 station_bytes s = each token_bytes (λ i. get_or s.tokens i (pos 0)) 2 ++ (s.count ∷ [])
 
+-- a queue as bytes: its eight tokens, oldest first, and how many it holds
 unfoldable pub queue_bytes : Queue → List ℕ
 queue_bytes q = each token_bytes (λ i. get_or q.tokens i (pos 0)) 8 ++ (q.count ∷ [])
 
--- a state: the cycle count, the nodes, the pending marks, the stations, the queues
+-- a state as bytes: the cycle count, the nodes, the pending bytes, the stations, the queues
 unfoldable pub state_bytes : State → List ℕ
 state_bytes s =
     number_bytes s.cycles ++ (
@@ -51,24 +53,28 @@ state_bytes s =
     each station_bytes (λ i. get_or s.stations i no_station) 768 ++
     each queue_bytes (queue_at s) 96)))
 
--- how many bytes that is
+-- how many bytes a state has
 abbrev pub state_length : ℕ
 state_length = 10692
 
 -- ---- read, from a place on
+-- the signed number in the bytes from a place on
 unfoldable pub token_in : List ℕ → ℕ → ℤ
 token_in bytes at = signed (four_bytes bytes at)
 
+-- the node in the bytes from a place on
 unfoldable pub node_in : List ℕ → ℕ → Node
 node_in bytes at = record { value = token_in bytes at; firings = four_bytes bytes (at + 4) }
 
+-- the station record in the bytes from a place on
 unfoldable pub station_in : List ℕ → ℕ → Station
 station_in bytes at = record { tokens = token_in bytes at ∷ token_in bytes (at + 4) ∷ []; count = get_or bytes (at + 8) 0 }
 
+-- the queue in the bytes from a place on
 unfoldable pub queue_in : List ℕ → ℕ → Queue
 queue_in bytes at = record { tokens = table (λ i. token_in bytes (at + 4 * i)) 8; count = get_or bytes (at + 32) 0 }
 
--- the places of a state
+-- the state in as many bytes as a state has, each part at its place
 unfoldable pub places_in : List ℕ → State
 places_in bytes =
     record {
@@ -79,26 +85,30 @@ places_in bytes =
       queues = table (λ c. queue_in bytes (7524 + 33 * c)) 96;
     }
 
--- the state that bytes are. Of any other length they are none: they are read as one that fits no image, by its cycle count
+-- what bytes of any other length than a state's are read as: a state that fits no image, by its cycle count
 unfoldable pub no_state : State
 no_state = record { cycles = 1000001; nodes = zeros.nodes; pending = zeros.pending; stations = zeros.stations; queues = zeros.queues }
 
+-- the state that bytes are read as
 unfoldable pub state_in : List ℕ → State
 state_in bytes = places_in bytes if eqb (length bytes) state_length else no_state
 
--- a record alone. Of any other length bytes are no record: they are read as one that fits no bench, by its count
+-- what bytes of any other length than a record's are read as: a record that fits no bench, by its count
 unfoldable pub no_record : Station
 no_record = record { tokens = pos 0 ∷ pos 0 ∷ []; count = 3 }
 
+-- the station record that bytes are read as
 unfoldable pub record_in : List ℕ → Station
 record_in bytes = station_in bytes 0 if eqb (length bytes) 9 else no_record
 
--- a row of records one after another. If the last is not whole, it fits no bench either
+-- record i of the row that bytes are read as: one that fits no bench where the last is not whole
 unfoldable pub row_record : List ℕ → ℕ → Station
 row_record bytes i = station_in bytes (9 * i) if leb (9 * i + 9) (length bytes) else no_record
 
+-- how many records bytes are read as, the last of them whole or not
 unfoldable pub record_count : List ℕ → ℕ
 record_count bytes = (length bytes + 8) / 9
 
+-- the row of records that bytes are read as
 unfoldable pub row_in : List ℕ → List Station
 row_in bytes = table (row_record bytes) (record_count bytes)

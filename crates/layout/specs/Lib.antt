@@ -1,5 +1,5 @@
--- A state and station records as bytes. A file NAME defines, and NAMELaws proves what others use instead of the definition's text; `proofs/Back` proves
--- that what is written is read back.
+-- Defines a state and station records as bytes: how they are written, and what bytes are read as; `proofs/Back` proves that what is written is read
+-- back.
 pub mod Bytes
 pub mod Typed
 pub mod Laws

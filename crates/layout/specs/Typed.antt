@@ -6,6 +6,7 @@ use Rattle.state.specs.declared.State.{State}
 use Rattle.state.specs.State.{value_at, firings_at, queue_at}
 use Rattle.fitting.specs.Fitting.{Shaped}
 
+-- a state whose numbers are in the ranges of their declared types
 pub record Typed (s : State) : Type 0 where
   pub shaped : Shaped s
   pub cycled : s.cycles < 2 ^ 32

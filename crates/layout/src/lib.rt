@@ -5,5 +5,5 @@
 // How many bytes a state has.
 pub const STATE: usize = 10692;
 
-// How many a station record has.
+// How many bytes a station record has.
 pub const RECORD: usize = 9;

@@ -20,7 +20,8 @@ impl<'a> Netlist<'a> {
     ghost use Rattle.image.specs.Image.{nodes, channels};
     ghost use Rattle.image.specs.Readers.{core_at, wire_at, Placed};
 
-    // An image, if the judge accepts it.
+    // Returns the image as a netlist, given one that the judge accepts; given any other, the judge's
+    // refusal, 1 to 11.
     pub fn judged(image: &'a [u8]) -> Result<Netlist<'a>, Refusal>
         ensures number { number_of result ≡ judge image.entry.now }
         ensures same { IfOk result (λ netlist. netlist.image ≡ image.entry) }
@@ -29,7 +30,7 @@ impl<'a> Netlist<'a> {
         Ok(Netlist { image })
     }
 
-    // N.
+    // Returns N, the number of nodes.
     #[tactic(auto, using(verdict::specs::Laws::Accepted::nodes_few))]
     pub fn nodes(self) -> u8
         ensures value { result ≡ nodes self.entry.image.now }
@@ -38,7 +39,7 @@ impl<'a> Netlist<'a> {
         image::nodes(self.image)
     }
 
-    // C.
+    // Returns C, the number of channels.
     #[tactic(auto, using(verdict::specs::Laws::Accepted::channels_few))]
     pub fn channels(self) -> u8
         ensures value { result ≡ channels self.entry.image.now }
@@ -47,14 +48,14 @@ impl<'a> Netlist<'a> {
         image::channels(self.image)
     }
 
-    // Node n's fields.
+    // Returns node n's fields, each 0 past the image's end.
     pub fn core(self, n: u8) -> Core
         ensures { result ≡ core_at self.entry.image.now n }
     {
         image::core_at(self.image, n)
     }
 
-    // Channel c's fields.
+    // Returns channel c's fields, each 0 past the image's end.
     #[tactic(auto, using(verdict::specs::Laws::Accepted::wire_placed))]
     pub fn wire(self, c: u8) -> Wire
         ensures value { result ≡ wire_at self.entry.image.now c }

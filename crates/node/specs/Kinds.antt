@@ -5,7 +5,7 @@ use Rattle.pearl.specs.declared.Kind.{Kind}
 use Rattle.pearl.specs.declared.Kind.TheVariants.{Count}
 use Rattle.pearl.specs.Kind.{kind_byte}
 
--- the kinds of the nodes below n; the other places hold the first kind
+-- an array of the kinds of the nodes below n, whose other places hold the first kind
 pub record KindsBelow (img : List ℕ) (n : ℕ) (kinds : List Kind) : Type 0 where
   pub long : length kinds ≡ 64
   pub each : (k : ℕ) → k < n → kind_byte (get_or kinds k Count) ≡ kind img k

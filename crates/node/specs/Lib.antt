@@ -1,4 +1,4 @@
--- A node in its netlist. A file NAME defines, and NAMELaws proves what others use instead of the definition's text.
+-- A node in its netlist: the kinds of all nodes, what is on a node's ports, and its next value.
 pub mod Kinds
 pub mod Node
 pub mod Laws

@@ -8,7 +8,8 @@ ghost use Rattle.node.specs.Kinds.{KindsBelow};
 use netlist::Netlist;
 use pearl::Kind;
 
-// The kinds of all nodes, and behind them a kind that nothing reads. By number: a byte names a node.
+// Returns the kinds of all nodes, given a netlist, and behind them a kind that nothing reads. By number:
+// a byte names a node.
 pub fn kinds_of(netlist: Netlist) -> [Kind; 64]
     ensures { KindsBelow netlist.entry.image.now (nodes netlist.entry.image.now) result }
 {

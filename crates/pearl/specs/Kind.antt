@@ -18,6 +18,6 @@ kind_byte Difference = 7
 kind_byte Larger = 8
 kind_byte Choose = 9
 
--- a number gives the kind that has it, and one that no kind has is refused
+-- what a number is read as: the kind that has it, or the refusal of a number that no kind has
 abbrev pub Decodes : ℕ → Result Kind Refusal → Type 0
 Decodes number r = MatchResult r (λ kind. kind_byte kind ≡ number) (λ refusal. (refusal ≡ NoKind) × (outside 1 9 number ≡ true))

@@ -1,4 +1,4 @@
--- What a core computes. A file NAME defines, and NAMELaws proves what others use instead of the definition's text.
+-- What a core computes: the kinds of cores, their numbers, and a node's next value.
 pub mod Kind
 pub mod Wrap
 pub mod Next

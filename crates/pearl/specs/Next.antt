@@ -20,7 +20,7 @@ larger a b = b if lt_z a b else a
 unfoldable pub choose : ℤ → ℤ → ℤ → ℤ
 choose a b c = b if lt_z a (pos 0) else c
 
--- the table's last column, in the integers: nothing is wrapped yet. A number that is no kind has 0 there.
+-- the last column of the table of cores, in the integers: nothing is wrapped here. A number that is no kind has 0.
 unfoldable pub exact : ℕ → ℤ → ℤ → ℤ → ℤ → ℤ
 exact kind s a b c =
     (s +ℤ pos 1) if eqb kind 1 else  -- count
@@ -34,10 +34,10 @@ exact kind s a b c =
     choose a b c if eqb kind 9 else  -- choose
     pos 0
 
--- the next value
+-- the next value of a node: what the table of cores says of its kind, wrapped
 unfoldable pub next_value : ℕ → ℤ → ℤ → ℤ → ℤ → ℤ
 next_value kind s a b c = wrap (exact kind s a b c)
 
--- and whatever the number of the kind is: the next value, or the refusal of a "kind not 1 to 9"
+-- the next value by any number: a number that is no kind has the refusal of a "kind not 1 to 9"
 unfoldable pub next : ℕ → ℤ → ℤ → ℤ → ℤ → Result ℤ Refusal
 next kind s a b c = Err NoKind if outside 1 9 kind else Ok (next_value kind s a b c)

@@ -55,8 +55,9 @@ impl TryFrom<u8> for Kind {
 impl Kind {
     ghost use Rattle.pearl.specs.Kind.{kind_byte};
 
-    // The next value. A port that the kind does not have is not looked at. The ports are named, as above, and
-    // no array.
+    // Returns the next value of a node of this kind, given its present value s and its ports' values a,
+    // b and c. A port that the kind does not have is not looked at. The ports are named, as in the
+    // table, and no array.
     pub fn next(self, s: i32, a: i32, b: i32, c: i32) -> i32
         ensures { result ≡ next_value (kind_byte self) s a b c }
     {
@@ -75,7 +76,9 @@ impl Kind {
     }
 }
 
-// The same by the number of a kind: the project's rules name a match over numbers with a refusal.
+// Returns the next value, given the number of a node's kind, its present value and its ports' values, or
+// refusal 4 if the number is no kind. The project's rules name this form, a match over numbers with a
+// refusal.
 pub fn next_value(kind: u8, s: i32, a: i32, b: i32, c: i32) -> Result<i32, Refusal>
     ensures { result ≡ next kind s a b c }
 {

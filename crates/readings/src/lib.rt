@@ -11,8 +11,10 @@ use netlist::Netlist;
 use relay::Reading;
 use state::State;
 
-// Each channel's letter and value, written to the first places of two lent arrays, as C lends them. By
-// index: a turn reads four arrays of the state, too, at the channel's own place and at that of its node.
+// Leaves each channel's letter and value in the first C places of two lent arrays and the rest as it
+// was, given a state that fits the netlist's image and at least C places each. Two arrays, as C lends
+// them. By index: a turn reads four arrays of the state, too, at the channel's own place and at that of
+// its node.
 pub fn show(netlist: Netlist, state: State, letters: &mut [u8], values: &mut [i32])
     requires fitting { Fitting netlist.image.now state }
     requires image_in_bounds { (channels netlist.image.now ≤ length letters.old) × (channels netlist.image.now ≤ length values.old) }

@@ -47,7 +47,7 @@ pub enum Refusal {
 }
 
 impl Refusal {
-    // The number of a reason.
+    // Returns the number of a refusal, which C callers and the programs are told.
     pub fn number(self) -> u8
         ensures { result ≡ number self }
     {

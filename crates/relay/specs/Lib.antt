@@ -1,4 +1,4 @@
--- Links, relay stations and rows of them in one cycle. A file NAME defines, and NAMELaws proves what others use instead of the definition's text.
+-- Links, relay stations, and rows of stations in one cycle.
 pub mod Link
 pub mod Station
 pub mod Row

@@ -21,7 +21,7 @@ link_of (x ∷ xs) = Some x
 abbrev pub passing : List ℤ → Bool → List ℤ
 passing link stop = [] if stop else link
 
--- what does not pass stays where it is
+-- the token that does not pass on a link stays where it is
 abbrev pub staying : List ℤ → Bool → List ℤ
 staying link stop = link if stop else []
 

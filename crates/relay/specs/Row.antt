@@ -4,22 +4,22 @@ use Rattle.std.specs.Prelude.{Bool, List, [], ◌∷◌, ◌++◌, ℕ, zero, su
 use Rattle.laws.specs.Lists.{holds_two}
 use Rattle.relay.specs.Station.{place_after}
 
--- is the link that enters the row stopped: "while station j + 1 holds 2 tokens", and as given where there is no station
+-- whether the link that enters the row is stopped: "while station j + 1 holds 2 tokens", and as given where there is no station
 unfoldable pub stopped : List (List ℤ) → Bool → Bool
 stopped [] stop = stop
 stopped (place ∷ row) stop = holds_two place
 
--- what the link that leaves the row shows: the oldest token of the last place, and the entering link's where there is no station
+-- what the link that leaves the row shows: the oldest token of the last place, and what the entering link shows where there is no station
 unfoldable pub leaving : List ℤ → List (List ℤ) → List ℤ
 leaving link [] = link
 leaving link (place ∷ row) = leaving (take 1 place) row
 
--- the row after the cycle
+-- the row after a cycle
 unfoldable pub row_after : List ℤ → List (List ℤ) → Bool → List (List ℤ)
 row_after link [] stop = []
 row_after link (place ∷ row) stop = place_after link place (stopped row stop) ∷ row_after (take 1 place) row stop
 
--- the tokens of the row, oldest first
+-- the tokens of a row, oldest first
 unfoldable pub contents : List (List ℤ) → List ℤ
 contents [] = []
 contents (place ∷ row) = contents row ++ place

@@ -8,12 +8,12 @@ use Rattle.relay.specs.Link.{Link, token, link_of, passing}
 use Rattle.relay.specs.Station.{held, station_of}
 use Rattle.relay.specs.Row.{stopped, leaving, row_after}
 
--- the places of the first n records
+-- what the first n records of a row hold, place by place
 unfoldable pub places : Row → ℕ → List (List ℤ)
 places row n = map held (take n row.stations)
 
--- the first n records after the cycle, and the others as they were; what the leaving link showed; whether the entering link's token was taken,
--- "which is no when none came"
+-- what `Row::cycle` answers: the first n records after the cycle and the others as they were; what the leaving link showed; whether the entering
+-- link's token was taken, "which is no when none came"
 unfoldable pub row_cycle : Row → ℕ → Link → Bool → RowCycle
 row_cycle row n link stop =
     record {
@@ -23,7 +23,7 @@ row_cycle row n link stop =
     }
 
 -- ---- for the loop over the records
--- station j of the first n after the cycle
+-- station j of the first n, counted from 0, after a cycle
 unfoldable pub station_after : Row → ℕ → Link → Bool → ℕ → Station
 station_after row n link stop j = station_of (get_or (row_after (token link) (places row n) stop) j [])
 

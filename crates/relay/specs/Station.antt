@@ -8,15 +8,15 @@ use Rattle.relay.specs.Link.{passing}
 unfoldable pub held : Station → List ℤ
 held s = take s.count s.tokens
 
--- the station that holds these tokens, two at most
+-- the station that holds a list of tokens, two at most
 unfoldable pub station_of : List ℤ → Station
 station_of tokens = record { tokens = padded 2 (pos 0) tokens; count = length tokens }
 
--- every place that holds no token is 0
+-- whether every place of a station that holds no token is 0
 abbrev pub clear : Station → Bool
 clear s = zero_from 2 s.count s.tokens
 
 -- a place after a cycle: its oldest token leaves unless the link below is stopped, and what passes on the link above comes in behind the others.
--- That link is stopped while the place holds two tokens
+-- The link above is stopped while the place holds two tokens
 unfoldable pub place_after : List ℤ → List ℤ → Bool → List ℤ
 place_after link place stop = drop_if (not stop) place ++ passing link (holds_two place)

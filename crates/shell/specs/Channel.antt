@@ -17,36 +17,37 @@ pub record Channel : Type 0 where
 unfoldable pub tokens : Channel → List ℤ
 tokens ch = ch.queue ++ (contents ch.row ++ ch.source)
 
--- a from node's token is held up: "a pending token on a stopped link 0"
+-- whether a from node's token is held up: "a pending token on a stopped link 0"
 unfoldable pub blocked : Bool → Bool → Bool
 blocked pending stop = pending && stop
 
--- whether a token is pending after the cycle: a new one where the from node fires, else the old one if it did not pass
+-- whether a token is pending after a cycle: a new one where the from node fires, else the old one if it did not pass
 unfoldable pub pending_after : Bool → Bool → Bool → Bool
 pending_after pending stop fires = fires || blocked pending stop
 
--- what link r shows
+-- what link r shows, the link that arrives at the queue
 unfoldable pub arriving : Channel → List ℤ
 arriving ch = leaving ch.source ch.row
 
--- the input of the to node. "An input is ready if its queue holds a token or link r is valid": then this is valid, and shows the oldest token.
+-- the input of the to node: valid where "its queue holds a token or link r is valid", and it shows the oldest token.
 -- "With an empty queue the arriving token is used at once"
 unfoldable pub input : Channel → Link
 input ch = link_of (ch.queue ++ arriving ch)
 
 module _ (depth : ℕ) (ch : Channel) where
-  -- the stops of link r and of link 0
+  -- whether link r is stopped
   unfoldable pub stop_below : Bool
   stop_below = full depth (length ch.queue)
 
+  -- whether link 0 is stopped
   unfoldable pub stop_above : Bool
   stop_above = stopped ch.row stop_below
 
-  -- the channel's letter and value
+  -- the reading of the channel: its letter and value, which are those of link r
   unfoldable pub channel_reading : Reading
   channel_reading = reading (link_of (arriving ch)) stop_below
 
-  -- the channel after the cycle: whether its to node fires, whether its from node fires, and the value that the from node then shows
+  -- the channel after a cycle, given whether its to node fires, whether its from node fires, and the value that the from node then shows
   unfoldable pub channel_after : Bool → Bool → ℤ → Channel
   channel_after to from value =
       record {

@@ -1,4 +1,4 @@
--- Queues, and a channel in one cycle. A file NAME defines, and NAMELaws proves what others use instead of the definition's text.
+-- The queue at the end of a channel, and a channel in one cycle.
 pub mod Queue
 pub mod Channel
 pub mod Laws

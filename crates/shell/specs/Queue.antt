@@ -8,7 +8,7 @@ use Rattle.shell.specs.declared.Queue.{Queue}
 unfoldable pub waiting : Queue → List ℤ
 waiting q = take q.count q.tokens
 
--- the queue that holds these tokens, eight at most
+-- the queue that holds a list of tokens, eight at most
 unfoldable pub queue_of : List ℤ → Queue
 queue_of tokens = record { tokens = padded 8 (pos 0) tokens; count = length tokens }
 
@@ -16,12 +16,12 @@ queue_of tokens = record { tokens = padded 8 (pos 0) tokens; count = length toke
 unfoldable pub full : ℕ → ℕ → Bool
 full depth count = leb depth count
 
--- a token that arrives comes in behind the others, if there is a place for it
+-- the queue with the token that arrives behind the others, if there is a place for it
 unfoldable pub pushed : Queue → List ℤ → Queue
 pushed q [] = q
 pushed q (x ∷ xs) = record { tokens = set q.tokens q.count x; count = q.count + 1 } if ltb q.count 8 else q
 
--- the oldest token is taken, and the others move up one place
+-- the queue without its oldest token: the others move up one place
 unfoldable pub popped : Queue → Queue
 popped q = record { tokens = drop 1 q.tokens ++ (pos 0 ∷ []); count = q.count - 1 }
 

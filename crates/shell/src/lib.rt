@@ -1,4 +1,9 @@
-// The shell's side of a channel, by value: the queue at its end, and the pending mark at its start.
+// The shell's side of a channel, by value: the queue at its end, and the pending bit at its start.
+//
+// A queue's functions push and pop on the record, for any record; `after_of` says what they do to one
+// that `queue_of` wrote, at every depth. The channel as a whole is a definition (specs/Channel.antt),
+// which the engine's loops follow part by part. Its law is `channel_fifo`: its tokens after a cycle
+// are those before, less the first if its to node fires, and then the new one if its from node fires.
 #![tactic(auto)]
 
 ghost use Rattle.std.specs.Prelude.{[], ◌++◌, ◌≡◌, ◌<◌};
@@ -20,7 +25,7 @@ impl Queue {
     // How many tokens the deepest queue has places for.
     pub const DEPTH: u8 = 8;
 
-    // A queue that holds no token. `default()` would say less.
+    // Returns a queue that holds no token. `default()` would say less.
     #[tactic(auto, unfolding(crate::specs::Queue::queue_of, laws::specs::Lists::padded))]
     pub fn empty() -> Self
         ensures { result ≡ queue_of [] }
@@ -31,7 +36,7 @@ impl Queue {
         }
     }
 
-    // Whether a queue of a depth is full, which stops the link that arrives at it.
+    // Returns whether the queue is full, given its depth: if so, it stops the link that arrives.
     #[tactic(auto, unfolding(crate::specs::Queue::full))]
     pub fn full(self, depth: u8) -> bool
         ensures { result ≡ full depth self.count }
@@ -39,8 +44,8 @@ impl Queue {
         depth <= self.count
     }
 
-    // What its node has to take, from the link that arrives: the oldest token here, or with an empty
-    // queue the one on the link.
+    // Returns what the queue's node has to take, given the link that arrives: the oldest token of the
+    // queue, or with an empty queue the one on the link.
     #[tactic(auto, using(relay::specs::Laws::Link::link_own, crate::specs::Laws::Queue::link_waiting), unfolding(crate::specs::Queue::waiting))]
     pub fn input(self, link: Link) -> Link
         ensures { result ≡ link_of (waiting self ++ token link) }
@@ -51,7 +56,7 @@ impl Queue {
         Some(self.tokens[0])
     }
 
-    // It with the link's token behind the others, if that passes and there is a place.
+    // Returns the queue with the link's token behind the others, if that passes and there is a place.
     #[tactic(auto, using(crate::specs::Laws::Queue::push_flag))]
     fn pushed(self, link: Link, stop: bool) -> Self
         ensures { result ≡ pushed self (passing (token link) stop) }
@@ -68,7 +73,7 @@ impl Queue {
         queue
     }
 
-    // It without its oldest token.
+    // Returns the queue without its oldest token.
     fn popped(self) -> Self
         requires { 0 < self.count }
         ensures { result ≡ popped self }
@@ -82,7 +87,8 @@ impl Queue {
         }
     }
 
-    // It after a cycle, from the link that arrives, the stop on that link, and whether its node fires.
+    // Returns the queue after a cycle, given the link that arrives, the stop on that link, and whether
+    // the queue's node fires.
     #[tactic(auto, unfolding(crate::specs::Queue::queue_after))]
     pub fn after(self, link: Link, stop: bool, fires: bool) -> Self
         ensures { result ≡ queue_after self (passing (token link) stop) fires }
@@ -97,8 +103,8 @@ impl Queue {
     }
 }
 
-// Whether a pending token keeps its node from firing, by the stop on link 0. A stop on a void link
-// does not.
+// Returns whether a pending token keeps its node from firing, given the stop on link 0. A stop on a void
+// link does not.
 #[tactic(auto, unfolding(crate::specs::Channel::blocked))]
 pub fn blocked(pending: bool, stop: bool) -> bool
     ensures { result ≡ blocked pending stop }
@@ -106,7 +112,8 @@ pub fn blocked(pending: bool, stop: bool) -> bool
     pending & stop
 }
 
-// Whether a token is pending after a cycle, by the stop on link 0 and whether the from node fires.
+// Returns whether a token is pending after a cycle, given whether one was, the stop on link 0, and
+// whether the from node fires.
 #[tactic(auto, unfolding(crate::specs::Channel::pending_after))]
 pub fn pending_after(pending: bool, stop: bool, fires: bool) -> bool
     ensures { result ≡ pending_after pending stop fires }

@@ -3,10 +3,11 @@ use Rattle.std.specs.Prelude.{List, [], ◌∷◌, ℕ, ℤ, pos, negsuc, get_or
 use Rattle.pearl.specs.Next.{next_value}
 use Rattle.starred.specs.declared.Edge.{Edge}
 
--- the inputs are s, a, b and c
+-- an edge: a kind, the inputs s, a, b and c, and the next value expected
 abbrev edge : ℕ → List ℤ → ℤ → Edge
 edge kind inputs expected = record { kind = kind; inputs = inputs; expected = expected }
 
+-- the table of the arithmetic's starred edges
 abbrev pub edges : List Edge
 edges =
     -- "halve −1 gives −1", "halve −3 gives −2", "halve 7 gives 3"
@@ -24,7 +25,7 @@ edges =
     ∷ edge 9 (pos 0 ∷ pos 0 ∷ pos 11 ∷ pos 22 ∷ []) (pos 22)
     ∷ []
 
--- entry i, all zeros past the table's end
+-- entry i of the table, all zeros past the table's end
 abbrev pub edge_at : ℕ → Edge
 edge_at i = get_or edges i (edge 0 (pos 0 ∷ pos 0 ∷ pos 0 ∷ pos 0 ∷ []) (pos 0))
 

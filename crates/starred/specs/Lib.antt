@@ -1,3 +1,3 @@
--- The starred edges: the table, and the claim that settles it with the others.
+-- Defines the starred edges: the arithmetic ones as a table, and all of them as one claim.
 pub mod Edges
 pub mod Starred

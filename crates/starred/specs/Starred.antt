@@ -22,10 +22,11 @@ use Rattle.state.specs.Fresh.{fresh_state}
 use Rattle.cycle.specs.Cycle.{stalled, all_ready, any_blocked, fires, node_after, state_after, after}
 use Rattle.starred.specs.Edges.{edges, given}
 
--- a row of which the first station holds these tokens; a token offered on a link
+-- a row whose first station holds these tokens and whose other stations are empty
 abbrev first : List ℤ → Row
 first tokens = record { stations = station_of tokens ∷ replicate 7 (station_of []) }
 
+-- a link on which the token v is offered
 abbrev offered : ℤ → Link
 offered v = Some v
 

@@ -65,14 +65,14 @@ const EDGES: [Edge; 9] = [
     },
 ];
 
-// Past the table's end.
+// The entry past the table's end.
 const NONE: Edge = Edge {
     kind: 0,
     inputs: [0; 4],
     expected: 0,
 };
 
-// Entry i of the table, all zeros past its end.
+// Returns entry i of the table of starred edges, all zeros past its end.
 pub fn edge_at(i: u8) -> Edge
     ensures { result ≡ edge_at i }
 {

@@ -34,10 +34,10 @@ zeros =
       queues = replicate 96 (queue_of []);
     }
 
--- 0 and the fresh state, or one of the numbers 1 to 11 and zeros
+-- what a call for a fresh state answers: 0 and the fresh state, or one of the numbers 1 to 11 and zeros
 unfoldable pub fresh_answer : List ℕ → Told
 fresh_answer img = record { number = judge img; state = fresh_state img if eqb (judge img) 0 else zeros }
 
--- what a call for it has done: its contract ensures this record
+-- what a call for a fresh state has done: its contract ensures this record
 pub record FreshDone (img : List ℕ) (answer : Told) : Type 0 where
   pub answered : answer ≡ fresh_answer img

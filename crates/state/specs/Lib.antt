@@ -1,6 +1,5 @@
--- The state of a netlist. A file NAME defines, and NAMELaws proves what others use instead of the definition's text.
+-- The state of a netlist, the fresh state, and what the answer of a call tells.
 pub mod State
--- what an answer tells
 pub mod Told
 pub mod Fresh
 pub mod Laws

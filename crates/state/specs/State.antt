@@ -13,10 +13,11 @@ use Rattle.shell.specs.Channel.{Channel}
 use Rattle.state.specs.declared.Node.{Node}
 use Rattle.state.specs.declared.State.{State}
 
--- a node that is not there; what is read past the end of an array of queues
+-- a node that is not there
 abbrev pub no_node : Node
 no_node = record { value = pos 0; firings = 0 }
 
+-- what is read past the end of an array of queues
 abbrev pub no_queue : Queue
 no_queue = record { tokens = []; count = 0 }
 
@@ -30,17 +31,19 @@ value_at s n = (node_at s n).value
 abbrev pub firings_at : State → ℕ → ℕ
 firings_at s n = (node_at s n).firings
 
--- channel c's pending mark; its station j, counted from 0; its queue
+-- the pending byte of channel c
 unfoldable pub pending_at : State → ℕ → ℕ
 pending_at s c = get_or s.pending c 0
 
+-- station j of channel c, counted from 0
 unfoldable pub station_at : State → ℕ → ℕ → Station
 station_at s c j = get_or s.stations (8 * c + j) no_station
 
+-- the queue of channel c
 unfoldable pub queue_at : State → ℕ → Queue
 queue_at s c = get_or s.queues c no_queue
 
--- channel c: "pending" its from node's value, if its mark is 1; the tokens of its stations; those of its queue
+-- what channel c holds: its from node's value, "pending" if the channel's pending byte is 1; the tokens of its stations; those of its queue
 unfoldable pub channel_in : List ℕ → State → ℕ → Channel
 channel_in img s c =
     record {
@@ -49,7 +52,7 @@ channel_in img s c =
       queue = waiting (queue_at s c);
     }
 
--- ---- the state of an image with these nodes and channels: "Every unused place is 0"
+-- the state of an image at a cycle count, with these nodes and channels: "Every unused place is 0"
 unfoldable pub state_of : List ℕ → ℕ → (ℕ → Node) → (ℕ → Channel) → State
 state_of img cycles node channel =
     record {

@@ -9,15 +9,17 @@ use relay::Station;
 use shell::Queue;
 
 impl State {
-    // How many nodes and channels a state has places for, and the last cycle count that it may have.
+    // How many nodes a state has places for.
     pub const NODES: u8 = 64;
 
+    // How many channels a state has places for.
     pub const CHANNELS: u8 = 96;
 
+    // The highest cycle count that a state may have.
     pub const CYCLES: u32 = 1000000;
 
-    // A state of zeros throughout. By hand: a derived `Default` would want one of stations and queues too,
-    // beside their `empty`.
+    // Returns a state of zeros throughout. By hand: a derived `Default` would want one of stations and
+    // queues too, beside their `empty`.
     pub fn zeros() -> Self
         ensures { result ≡ zeros }
     {
@@ -36,8 +38,8 @@ impl State {
         }
     }
 
-    // An accepted image's fresh state: each node shows its parameter, which is pending on every
-    // channel that it feeds.
+    // Returns the fresh state, given an accepted image: each node shows its parameter, which is pending
+    // on every channel that it feeds.
     fn started(netlist: Netlist) -> Self
         ensures { result ≡ fresh_state netlist.entry.image.now }
     {
@@ -59,8 +61,9 @@ impl State {
         state
     }
 
-    // An image's fresh state; if the judge refuses the image, a state of zeros is handed back. A `match`, since
-    // each arm makes a state of its own: `map_err` and `?` would be no shorter.
+    // Returns the fresh state, given an image; if the judge refuses the image, its refusal, 1 to 11, and
+    // a state of zeros. A `match`, since each arm makes a state of its own: `map_err` and `?` would be
+    // no shorter.
     pub fn fresh(image: &[u8]) -> Result<State, Refused>
         ensures { FreshDone image.now (told result) }
     {

@@ -1,4 +1,4 @@
-// The state of a netlist between two cycles, and the fresh one.
+// The state of a netlist between two cycles, and the fresh state.
 #![tactic(auto)]
 
 mod initial;
@@ -14,9 +14,9 @@ pub struct Node {
     pub firings: u32,
 }
 
-// The state of a netlist between two cycles. Station j of channel c, counted from 0, stands at
-// place 8 * c + j. A place that nothing uses is 0. Marks, stations and queues stand in arrays of their
-// own, and a mark in a byte, as the C interface lays a state out.
+// The state of a netlist between two cycles. Station j of channel c, counted from 0, stands at place
+// 8 * c + j. A place that nothing uses is 0. Pending bits, stations and queues stand in arrays of their
+// own, and a pending bit in a byte, as the C interface lays a state out.
 #[derive(Clone, Copy)]
 pub struct State {
     pub cycles: u32,

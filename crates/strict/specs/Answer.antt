@@ -5,7 +5,7 @@ use Rattle.image.specs.Image.{nodes}
 use Rattle.verdict.specs.Judge.{judge}
 use Rattle.strict.specs.Strict.{strict_cycle}
 
--- its number, where the lent array has `room` places: "1 to 11 rising, each over the whole image; then .. 14, 13"
+-- the strict run's number, given a lent array of `room` places: "1 to 11 rising, each over the whole image; then .. 14, 13"
 unfoldable pub strict_number : List ℕ → ℕ → ℕ → ℕ
 strict_number img cycle room =
     judge img if not (eqb (judge img) 0) else
@@ -15,7 +15,7 @@ strict_number img cycle room =
     13 if ltb room (nodes img) else
     0
 
--- the lent array after the run, from what it held before: a refused run writes nothing
+-- what the lent array holds after the strict run, from what it held before: a refused run writes nothing
 unfoldable pub strict_written : List ℕ → ℕ → List ℤ → List ℤ
 strict_written img cycle old =
     (strict_cycle img cycle ++ drop (nodes img) old) if eqb (strict_number img cycle (length old)) 0 else

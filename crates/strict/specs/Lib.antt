@@ -1,4 +1,4 @@
--- The strict system. What a reader has to believe: the system itself, and what the run answers.
+-- Defines the strict system, and what the strict run answers and writes.
 pub mod Strict
 pub mod Answer
 pub mod Laws

@@ -1,4 +1,4 @@
--- What only loops hold.
+-- What only the contracts of inner functions and their loops say.
 pub mod Decoded
 pub mod System
 pub mod DecodedLaws

@@ -13,7 +13,7 @@ unfoldable pub strict_cycle : List ℕ → ℕ → List ℤ
 strict_cycle img zero = table (parameter img) (nodes img)
 strict_cycle img (suc t) = table (strict_next img (strict_cycle img t)) (nodes img)
 
--- node n's value of cycle t
+-- node n's value of cycle t in the strict system
 unfoldable pub strict : List ℕ → ℕ → ℕ → ℤ
 strict img n t = get_or (strict_cycle img t) n (pos 0)
 

@@ -1,4 +1,14 @@
 // The strict reference run: the values that the nodes have where no wire is too long for one clock.
+//
+// `strict` asks `allowed` for a netlist or a refusal, or works the cycle out (`reached`) and copies it
+// to the lent array. `reached` decodes the image once into a `System`: the kinds (`node::kinds_of`),
+// and the node that feeds each port (`feeders_of`). Then `after` makes each cycle's values from the
+// whole list before it, a node at a time (`next`, from what is `brought` to its ports). Nothing of a
+// cycle is written back before all of it is worked out, so no node can see a value of its own cycle.
+//
+// The arrays are the definition's lists with zeros behind them (`padded`), so the loop's invariant is
+// one equation, `values ≡ values_at img t`, and one turn is the law `values-after`. That law rests on
+// `ports_at`: what the channels wrote to a port's place is what `port_value` picks.
 #![tactic(auto)]
 
 ghost use Rattle.std.specs.Prelude.{◌≡◌, ◌<◌, ◌≤◌, length, IfOk, OnOk};
@@ -16,10 +26,10 @@ const LAST: u32 = 1000000;
 
 // What a cycle needs of an image: how many nodes there are, each one's kind, and the node that feeds
 // each port, three places a node, flat as the definition of ports has them. Kinds and feeders are arrays
-// of their own: the cycle engine shares what reads the one, and the law of ports speaks of the other. With
-// kinds and values in one struct a run took a tenth longer (docs/PERFORMANCE.md). The nodes' values stand in
-// 65 places: place 64 is no node's and stays 0, for ports that no channel feeds, so that a cycle reads all
-// three ports of each node without a test.
+// of their own: the cycle engine shares what reads the one, and the law of ports speaks of the other.
+// With kinds and values in one struct a run took a tenth longer (docs/PERFORMANCE.md). The nodes' values
+// stand in 65 places: place 64 is no node's and stays 0, for ports that no channel feeds, so that a
+// cycle reads all three ports of each node without a test.
 #[derive(Drop)]
 struct System {
     nodes: usize,
@@ -32,7 +42,7 @@ struct System {
 impl System {
     ghost use Rattle.strict.specs.Loops.System.{DecodedFrom, value_after, values_after};
 
-    // The system of an image.
+    // The system of a netlist's image.
     fn of(netlist: Netlist) -> System
         ensures { DecodedFrom netlist.entry.image.now result }
     {
@@ -43,7 +53,7 @@ impl System {
         }
     }
 
-    // The value on the port at a place.
+    // The value on the port at a place, given all values.
     #[tactic(auto, unfolding(crate::specs::Loops::Decoded::port_on))]
     fn brought(&self, values: &[i32; 65], at: usize) -> i32
         requires { at < 192 }
@@ -52,8 +62,8 @@ impl System {
         values[usize::from(self.feeders[at])]
     }
 
-    // The next value of node n. A node's number is below 64 by what a netlist promises; here the arrays' places
-    // ask for it.
+    // The next value of node n, given all values. A node's number is below 64 by what a netlist
+    // promises; here the arrays' places ask for it.
     #[tactic(auto, unfolding(crate::specs::Loops::System::value_after))]
     fn next(&self, values: &[i32; 65], n: usize) -> i32
         requires { n < 64 }
@@ -65,7 +75,7 @@ impl System {
         self.kinds[n].next(values[n], a, b, c)
     }
 
-    // The values after a cycle. By number, as `next` asks for a node.
+    // The values after a cycle, given those before it. By number, as `next` asks for a node.
     #[tactic(auto, using(laws::specs::Laws::Table::over_next), unfolding(crate::specs::Loops::System::values_after, laws::specs::Table::table_over, laws::specs::Table::table))]
     fn after(&self, values: &[i32; 65]) -> [i32; 65]
         ensures { result ≡ values_after self.now values.now }
@@ -91,7 +101,8 @@ fn feeders_of(netlist: Netlist) -> [u8; 192]
     feeders
 }
 
-// The values of cycle 0: all parameters. By index, since the netlist is asked for each node by its number.
+// The values of cycle 0: all parameters. By index, since the netlist is asked for each node by its
+// number.
 #[tactic(auto, using(laws::specs::Laws::Table::padded_next), unfolding(crate::specs::Loops::Decoded::values_at, crate::specs::Strict::strict_cycle, laws::specs::Table::table, laws::specs::Lists::padded, image::specs::Readers::core_at))]
 fn first(netlist: Netlist) -> [i32; 65]
     ensures { result ≡ values_at netlist.entry.image.now 0 }
@@ -103,7 +114,7 @@ fn first(netlist: Netlist) -> [i32; 65]
     values
 }
 
-// The values of a cycle.
+// The values of all nodes in a cycle, by cycles from 0 on.
 #[tactic(auto, using(verdict::specs::Laws::Accepted::accepted, crate::specs::Loops::DecodedLaws::values_next))]
 fn reached(netlist: Netlist, cycle: u32) -> [i32; 65]
     ensures { result ≡ values_at netlist.entry.image.now cycle }
@@ -116,7 +127,7 @@ fn reached(netlist: Netlist, cycle: u32) -> [i32; 65]
     values
 }
 
-// The netlist for a run that is lent an array of so many places. The judge's refusal comes first, then
+// The netlist for a run that is lent an array of `room` places. The judge's refusal comes first, then
 // that of a late cycle, then that of a short array.
 #[tactic(auto, unfolding(crate::specs::Answer::strict_number))]
 fn allowed<'a>(image: &'a [u8], cycle: u32, room: usize) -> Result<Netlist<'a>, Refusal>
@@ -134,9 +145,10 @@ fn allowed<'a>(image: &'a [u8], cycle: u32, room: usize) -> Result<Netlist<'a>, 
     Ok(netlist)
 }
 
-// The values of all N nodes in a cycle, written to the first N places of `values`. A refused run
-// writes nothing: one on an image that the judge refuses, of a cycle over 1,000,000, or with fewer
-// than N places. The three parameters are what C hands over.
+// Leaves the strict values of all N nodes in a cycle in the first N places of `values` and the rest as
+// it was, given an image, a cycle up to 1,000,000 and at least N places. Refused by 1 to 11, then 14 for
+// a later cycle, then 13 for fewer places: then nothing is written. The three parameters are what C
+// hands over.
 #[tactic(auto, using(crate::specs::Laws::Answer::written_none, refusal::specs::Laws::Number::number_positive))]
 pub fn strict(image: &[u8], cycle: u32, values: &mut [i32]) -> Result<(), Refusal>
     ensures value { number_of result ≡ strict_number image.now cycle (length values.old) }

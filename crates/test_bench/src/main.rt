@@ -1,6 +1,7 @@
-// Runs the benches and prints what they answer, a line a case. It has each cycle's answer: the letter of
-// the leaving link with its value for T and R, and + if the incoming token was taken; then the records
-// as they are after the last. A refusal prints its number, the 0, 0 and no that C is told, and the records.
+// Runs the benches and prints what they answer, a line a case. A line has each cycle's answer: the
+// letter of the leaving link with its value for T and R, and + if the incoming token was taken; then the
+// records as they are after the last cycle. A refusal prints its number, the 0, 0 and no that C is told,
+// and the records.
 //
 // A record is printed as its count and its two places. Everything goes through the lent forms: the
 // trials lend a copy.
@@ -11,9 +12,9 @@ use refusal::Refusal;
 use relay::{Link, Station};
 use std::{fmt, io};
 
-// What is benched, and what comes to it. A station without a row is benched alone; a row is the first so many of
-// nine records. Each record is as given, but for one that may be odd. A cycle is a byte of two texts: a digit is an
-// incoming token, '+' the largest, '.' none, and '1' is a stop.
+// A case: what is benched, and what comes to it. A station without a row is benched alone; a row is the
+// first so many of nine records. Each record is as given, but for one that may be odd. A cycle is a byte
+// of two texts: a digit is an incoming token, '+' the largest, '.' none, and '1' is a stop.
 #[derive(Clone, Copy)]
 struct Case {
     label: &'static str,
@@ -41,10 +42,11 @@ const EMPTY: Case = Case {
     stops: b"0",
 };
 
-// Of the stations the first tells of C's form, with a value beside its clear bit; a void link has none.
+// The cases. The first station's links have C's form, with a value beside a clear bit; a void link has
+// none.
 const CASES: &[Case] = &[
     Case {
-        label: "004, table 1",
+        label: "table 1",
         tokens: b"123....4..",
         stops: b"0011000110",
         ..EMPTY
@@ -279,7 +281,7 @@ fn link(token: u8) -> Link {
     }
 }
 
-// A cycle of a row, or of the first record alone.
+// One cycle of a row, or of the first record alone.
 fn cycle(
     row: Option<usize>,
     records: &mut Records,

@@ -1,6 +1,7 @@
-// Runs the engine and prints what it answers. First the starred edges' table, a line an edge, and two traces in
-// the trace program's form. Then a line a case: the number; the places of the lent arrays, a letter and its value
-// each, which were '.' and 7 before, or the steps done; and the state that came back.
+// Runs the engine and prints what it answers. First the starred edges' table, a line an edge, and two
+// traces in the trace program's form. Then a line a case: the number; the places of the lent arrays, a
+// letter and its value each, which were '.' and 7 before, or the steps done; and the state that came
+// back.
 //
 // Standard input has two images of 47 bytes: figure 4's, and one with stations on every channel:
 // kinds 1 6 4 7, parameters 10 100 200 300, wires 0-1-0, 3-1-1, 1-2-0, 2-3-0, 0-3-1, depths 1/1, 1/1,
@@ -15,22 +16,23 @@ use std::io;
 // One count node, parameter 5.
 const COUNTING: [u8; 7] = [1, 0, 1, 5, 0, 0, 0];
 
-// The stall words of the two traces, a byte a word.
+// The stall words of figure 4's trace, a byte a word.
 const FIGURE4_WORDS: &[u8] = b"\x01\x00\x00\x10\x00\x00\x03\x03\x08\x00\x00";
 
+// The stall words of the trace with stations, a byte a word.
 const STATIONS_WORDS: &[u8] =
     b"\x04\x0a\x00\x02\x07\x05\x0d\x09\x00\x00\x09\x0d\x03\x04\x0b\x0c\x00\x00\x0e\x00";
 
-// What is called: a step with a word, on arrays of so many places, six at most; or a run.
+// What is called: a step with a word, on arrays of so many places, six at most; or a run with its words.
 #[derive(Clone, Copy)]
 enum Call {
     Step(u64, usize, usize),
     Run(&'static [u64]),
 }
 
-// A call on figure 4's image, or on that image without its last byte, from its fresh state with another cycle count,
-// other firings of node 0, and on channel 0 another mark, a station that holds a 7, or a queue with a 7 in its first
-// place that counts so many.
+// A call on figure 4's image, or on that image without its last byte, from its fresh state with another
+// cycle count, other firings of node 0, and on channel 0 another pending byte, a station that holds a 7,
+// or a queue with a 7 in its first place that counts so many.
 #[derive(Clone, Copy)]
 struct Case {
     label: &'static str,
@@ -56,8 +58,8 @@ const FRESH: Case = Case {
 
 const LAST: u32 = 1000000;
 
-// The numbers of a step, alone and with the causes of those that come after; number 21, each condition in turn; and
-// the numbers of a run.
+// The numbers of a step, alone and with the causes of those that come after; number 21, each condition
+// in turn; and the numbers of a run.
 const CASES: &[Case] = &[
     FRESH,
     Case {
@@ -102,14 +104,14 @@ const CASES: &[Case] = &[
         ..FRESH
     },
     Case {
-        label: "cycle 1,000,000, no mark, word 32",
+        label: "cycle 1,000,000, nothing pending, word 32",
         cycles: LAST,
         pending: 0,
         call: Call::Step(32, 6, 6),
         ..FRESH
     },
     Case {
-        label: "a byte short, no mark",
+        label: "a byte short, nothing pending",
         short: true,
         pending: 0,
         ..FRESH
@@ -125,7 +127,7 @@ const CASES: &[Case] = &[
         ..FRESH
     },
     Case {
-        label: "mark 2",
+        label: "pending 2",
         pending: 2,
         ..FRESH
     },
@@ -145,7 +147,7 @@ const CASES: &[Case] = &[
         ..FRESH
     },
     Case {
-        label: "no mark",
+        label: "nothing pending",
         pending: 0,
         ..FRESH
     },
@@ -167,13 +169,13 @@ const CASES: &[Case] = &[
         ..FRESH
     },
     Case {
-        label: "no words, no mark",
+        label: "no words, nothing pending",
         pending: 0,
         call: Call::Run(&[]),
         ..FRESH
     },
     Case {
-        label: "no words, a byte short, no mark",
+        label: "no words, a byte short, nothing pending",
         short: true,
         pending: 0,
         call: Call::Run(&[]),
@@ -183,8 +185,9 @@ const CASES: &[Case] = &[
 
 // ---- printing. Letters and values are two arrays of numbers, as the C interface lends them.
 
-// A letter, and its value unless it is the 0 that an I or an S carries. No `zip`: the arrays may differ in length, and
-// what one has beyond the other is printed too.
+// Prints the letters and values that lent arrays hold: a letter, and its value unless it is the 0 that
+// an I or an S carries. No `zip`: the arrays may differ in length, and what one has beyond the other is
+// printed too.
 fn print_places(rt: &impl Print, letters: &[u8], values: &[i32]) -> io::Result<()> {
     for i in 0..letters.len().max(values.len()) {
         print!(rt; " ")?;
@@ -201,7 +204,7 @@ fn print_places(rt: &impl Print, letters: &[u8], values: &[i32]) -> io::Result<(
     Ok(())
 }
 
-// Each node's firings.
+// Prints each node's firings.
 fn print_fired(rt: &impl Print, image: &[u8], state: &State) -> io::Result<()> {
     print!(rt; "fired")?;
     for node in state.nodes.iter().take(usize::from(image::nodes(image))) {
@@ -225,7 +228,7 @@ fn fresh(image: &[u8]) -> State {
     State::fresh(image).unwrap_or_else(|refused| refused.state)
 }
 
-// The same image without its last byte.
+// An image without its last byte.
 fn short(image: &[u8]) -> &[u8] {
     match image {
         [rest @ .., _] => rest,
@@ -233,7 +236,7 @@ fn short(image: &[u8]) -> &[u8] {
     }
 }
 
-// A refused image has no state but zeros.
+// Prints what a call for a fresh state answers. A refused image has no state but zeros.
 fn show_fresh(rt: &impl Print, label: &str, image: &[u8]) -> io::Result<()> {
     let answer = State::fresh(image);
     let number = answer.err().map_or(0, |refused| refused.refusal.number());
@@ -241,7 +244,7 @@ fn show_fresh(rt: &impl Print, label: &str, image: &[u8]) -> io::Result<()> {
     print_state(rt, image, &fresh(image))
 }
 
-// A step on arrays of so many places.
+// Prints what a step on arrays of so many places answers and leaves.
 fn step(
     rt: &impl Print,
     image: &[u8],
@@ -272,8 +275,8 @@ fn run(rt: &impl Print, image: &[u8], state: State, words: &[u64]) -> io::Result
     Ok(ran.state)
 }
 
-// The table of the starred edges: what each kind makes of its inputs, and what it should. Past its end there is no
-// kind.
+// Prints the table of the starred edges: what each kind makes of its inputs, and what it should. Past
+// the table's end there is no kind.
 fn show_starred(rt: &impl Print) -> io::Result<()> {
     for i in 0..10 {
         let Edge {
@@ -290,7 +293,7 @@ fn show_starred(rt: &impl Print) -> io::Result<()> {
     Ok(())
 }
 
-// A trace of up to eight channels from the fresh state.
+// Prints a trace of up to eight channels from the fresh state.
 fn trace(rt: &impl Print, image: &[u8], words: &[u8]) -> io::Result<()> {
     let channels = usize::from(image::channels(image)).min(8);
     let mut state = fresh(image);
@@ -336,7 +339,7 @@ fn show_case(rt: &impl Print, whole: &[u8], case: &Case) -> io::Result<()> {
     Ok(())
 }
 
-// A count node through all 1,000,000 cycles, in ten runs.
+// The state of a count node after all 1,000,000 cycles, in ten runs.
 fn run_to_the_limit(words: &[u64]) -> State {
     let mut state = fresh(&COUNTING);
     for _ in 0..10 {
@@ -360,7 +363,7 @@ fn show_limit(rt: &impl Print, last: State) -> io::Result<()> {
     step(rt, &COUNTING, last, 0, 6, 6)
 }
 
-// 64 count nodes: every bit of a word stalls one.
+// Prints two steps of 64 count nodes: every bit of a word stalls one.
 fn show_64(rt: &impl Print) -> io::Result<()> {
     let mut image = [1; 322];
     image[0] = 64;

@@ -1,11 +1,12 @@
-// Runs the judge at its limits, on images that have one cause of a number or two, and prints a line a case.
+// Runs the judge at its limits, on images that have one cause of a number or two, and prints a line a
+// case.
 #![tactic(auto)]
 
 use std::alloc::{AllocError, Global};
 use std::io;
 
-// An image of so many nodes, channels and stations (`sized`), brought to a length, and what is then written over
-// bytes of it.
+// An image of so many nodes, channels and stations (`sized`), brought to a length, and what is then
+// written over bytes of it.
 #[derive(Clone, Copy)]
 struct Case {
     label: &'static str,
@@ -26,7 +27,8 @@ const LARGEST: Case = Case {
     changes: &[],
 };
 
-// Where that has the last node's kind, the last channel's wire and depths, and the first channel's depths.
+// Where the largest image has the last node's kind, the last channel's wire and depths, and the first
+// channel's depths.
 const KIND: usize = 65;
 
 const FROM: usize = 607;

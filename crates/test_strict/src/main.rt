@@ -1,11 +1,11 @@
 // Runs the strict system on the image on standard input, at the limits of its cycles and of the lent
-// array, and prints a line a case: the number, and then what all 66 places hold. Each held 7 before.
-// docs/PERFORMANCE.md times it as a whole: nearly all of its time is the run to cycle 1,000,000.
+// array, and prints a line a case: the number, and then what all 66 places hold, each of which held 7
+// before. docs/PERFORMANCE.md times it as a whole: nearly all of its time is the run to cycle 1,000,000.
 #![tactic(auto)]
 
 use std::io;
 
-// What is printed before a case, its cycle, and how many of the 66 places are lent.
+// The cases: what is printed before a case, its cycle, and how many of the 66 places are lent.
 const CASES: &[(&str, u32, usize)] = &[
     ("cycle 0", 0, 66),
     ("cycle 1", 1, 66),

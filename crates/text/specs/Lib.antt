@@ -1,4 +1,4 @@
--- The trace as text. What the contracts say, and what a reader has to believe: ASCII texts, numbers in decimal, the lines, the whole trace.
+-- Defines the trace as text: ASCII texts, numbers in decimal, the lines, the whole trace.
 pub mod Ascii
 pub mod Decimal
 pub mod Lines

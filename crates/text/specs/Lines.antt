@@ -7,10 +7,11 @@ use Rattle.relay.specs.declared.Reading.{Reading}
 use Rattle.text.specs.Ascii.{ascii}
 use Rattle.text.specs.Decimal.{decimal, signed_text}
 
--- a channel's state: its letter, "with its value for T and R"
+-- whether a letter stands "with its value for T and R"
 unfoldable pub shows_value : ℕ → Bool
 shows_value letter = eqb letter (code "T") || eqb letter (code "R")
 
+-- a channel's reading in a cycle's line: a space, its letter, and its value if the letter shows one
 unfoldable pub reading_text : Reading → List ℕ
 reading_text x = code " " ∷ x.letter ∷ (signed_text x.value if shows_value x.letter else [])
 
@@ -18,10 +19,11 @@ reading_text x = code " " ∷ x.letter ∷ (signed_text x.value if shows_value x
 unfoldable pub line_text : ℕ → List Reading → List ℕ
 line_text cycle readings = decimal cycle ++ (flat_map reading_text readings ++ ascii "\n")
 
--- a line of a word and numbers
+-- a number in a line, behind a space
 unfoldable pub count_text : ℕ → List ℕ
 count_text n = code " " ∷ decimal n
 
+-- a line of a label and numbers
 unfoldable pub labelled_text : List ℕ → List ℕ → List ℕ
 labelled_text label counts = label ++ (flat_map count_text counts ++ ascii "\n")
 
@@ -29,10 +31,10 @@ labelled_text label counts = label ++ (flat_map count_text counts ++ ascii "\n")
 unfoldable pub closing_text : List ℕ → List ℕ
 closing_text firings = labelled_text (ascii "fired") firings
 
--- "the line `refused` and the number"
+-- the line of a refusal: "the line `refused` and the number"
 unfoldable pub refused_text : ℕ → List ℕ
 refused_text number = labelled_text (ascii "refused") (number ∷ [])
 
--- channel c's state, of letters and values in two arrays
+-- channel c's reading, given letters and values in two arrays
 unfoldable pub reading_in : List ℕ → List ℤ → ℕ → Reading
 reading_in letters values c = record { letter = get_or letters c 0; value = get_or values c (pos 0) }

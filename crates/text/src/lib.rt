@@ -4,6 +4,16 @@
 // Each writer puts its line at the start of the slice that it is lent and leaves all that follows as
 // it was; the answer is how long the line is. Where the slice is shorter than the line it refuses and
 // writes nothing; so a line is measured before it is written.
+//
+// A line is two parts and a line feed: the cycle's number and the channels' readings, or a label and
+// numbers. A writer first measures both parts (their lengths are taken from the room, cut off at 0:
+// `room_after`) and refuses with 13 if nothing is left for the line feed; then it stores them one
+// after the other. Digits come from `io::decimal`; `digits_decimal` says that they are `decimal`.
+// Measuring also gives how much room is always enough, since a value of 32 bits takes 11 bytes at
+// most: the second half of each writer's contract.
+//
+// Whoever checks or converts traces and has no engine takes this crate alone: `trace_text` is the form
+// of a trace, whoever printed it.
 #![tactic(auto)]
 
 ghost use mathlib.Core.List.{List, ◌++◌, flat_map};
@@ -14,13 +24,13 @@ ghost use Rattle.text.specs.Decimal.{decimal, signed_text};
 ghost use Rattle.text.specs.Lines.{shows_value, reading_text, line_text, count_text, labelled_text, closing_text, refused_text};
 ghost use Rattle.text.specs.Trace.{header};
 ghost use Rattle.writer.specs.Write.{WriteDone};
-ghost use Rattle.writer.specs.Loops.Put.{Put};
+ghost use Rattle.writer.specs.Put.{Put};
 
 use refusal::Refusal;
 use relay::Reading;
 use writer::{Text, put_all, put_bytes};
 
-// One that tells how many bytes an item takes.
+// A way to write items that tells how many bytes an item takes, and how many at most.
 trait Measured<T: Copy>: Text<T> {
     ghost longest: { ℕ };
 
@@ -50,16 +60,16 @@ fn put_decimal(n: u64, out: &mut [u8], at: usize) -> usize
     put_bytes(&text[..count], out, at)
 }
 
-// How many digits a number has.
+// How many digits a number has in decimal.
 fn digits(n: u64) -> usize
     ensures { (result ≡ length (decimal n)) × (result ≤ 20) }
 {
     n.checked_ilog10().unwrap_or(0) as usize + 1
 }
 
-// A value with its sign: `io::decimal` is for numbers from 0 on, and the library's writers of signed numbers
-// speak of another definition of decimals.
-#[tactic(auto, using(writer::specs::Loops::PutLaws::put_steps, crate::specs::Laws::Decimal::signed_minus, crate::specs::Laws::Decimal::signed_plain))]
+// Stores a value in decimal with its sign, and tells the place after it. `io::decimal` is for numbers
+// from 0 on, and the library's writers of signed numbers speak of another definition of decimals.
+#[tactic(auto, using(writer::specs::Laws::Put::put_steps, crate::specs::Laws::Decimal::signed_minus, crate::specs::Laws::Decimal::signed_plain))]
 fn put_signed(value: i32, out: &mut [u8], at: usize) -> usize
     requires { at + length (signed_text value) ≤ length out.old }
     ensures { Put (signed_text value) at out.old out.new result }
@@ -80,7 +90,7 @@ fn signed_length(token: i32) -> usize
     if token < 0 { count + 1 } else { count }
 }
 
-// Whether a letter shows a value. It is a byte, as C is handed it.
+// Whether a letter stands with its value. It is a byte, as C is handed it.
 #[tactic(auto, unfolding(crate::specs::Lines::shows_value))]
 fn shows_value(letter: u8) -> bool
     ensures { result ≡ shows_value letter }
@@ -88,13 +98,13 @@ fn shows_value(letter: u8) -> bool
     (letter == b'T') | (letter == b'R')
 }
 
-// The states of a row.
-struct States;
+// The readings of a cycle's line.
+struct Readings;
 
-impl Text<Reading> for States {
+impl Text<Reading> for Readings {
     ghost text = { reading_text };
 
-    #[tactic(auto, using(writer::specs::Loops::PutLaws::put_steps), unfolding(crate::specs::Lines::reading_text))]
+    #[tactic(auto, using(writer::specs::Laws::Put::put_steps), unfolding(crate::specs::Lines::reading_text))]
     fn put(item: Reading, out: &mut [u8], at: usize) -> usize {
         out[at] = b' ';
         out[at + 1] = item.letter;
@@ -105,7 +115,7 @@ impl Text<Reading> for States {
     }
 }
 
-impl Measured<Reading> for States {
+impl Measured<Reading> for Readings {
     ghost longest = { 13 };
 
     #[tactic(auto, unfolding(crate::specs::Lines::reading_text))]
@@ -117,13 +127,13 @@ impl Measured<Reading> for States {
     }
 }
 
-// The counts of a line.
+// The numbers of a labelled line.
 struct Counts;
 
 impl Text<u32> for Counts {
     ghost text = { count_text };
 
-    #[tactic(auto, using(writer::specs::Loops::PutLaws::put_steps), unfolding(crate::specs::Lines::count_text))]
+    #[tactic(auto, using(writer::specs::Laws::Put::put_steps), unfolding(crate::specs::Lines::count_text))]
     fn put(item: u32, out: &mut [u8], at: usize) -> usize {
         out[at] = b' ';
         put_decimal(item as u64, out, at + 1)
@@ -138,10 +148,10 @@ impl Measured<u32> for Counts {
     }
 }
 
-// ---- the lines. Each contract names its own text, and the room that is always enough for it: no one value, so
-// no struct holds them.
+// ---- the lines. Each contract names its own text, and the room that is always enough for it: no one
+// value, so no struct holds them.
 
-// The first line of every trace.
+// Returns the header line, the first line of every trace.
 #[tactic(auto, unfolding(crate::specs::Trace::header, crate::specs::Ascii::ascii))]
 pub fn header() -> [u8; 13]
     ensures { result ≡ header }
@@ -149,7 +159,7 @@ pub fn header() -> [u8; 13]
     *b"cycle states\n"
 }
 
-// A line that begins so and goes on with these items.
+// A line that begins with `first` and goes on with the items.
 fn line<F: Measured<T>, T: Copy>(
     first: &[u8],
     items: &[T],
@@ -168,18 +178,22 @@ fn line<F: Measured<T>, T: Copy>(
     Ok(last + 1)
 }
 
-// The line of a cycle: its number, and each channel's letter with its value for T and R. A slice of 11
-// bytes and 13 for each channel is always enough.
+// Returns how long a cycle's line is, given the cycle's number and each channel's reading, and leaves
+// the line at the start of `out`: the number, and each channel's letter with its value for T and R.
+// Refused by 13 where `out` is shorter than the line: then nothing is written. 11 bytes and 13 for each
+// channel are always enough.
 pub fn cycle_line(cycle: u32, readings: &[Reading], out: &mut [u8]) -> Result<usize, Refusal>
     ensures write_done { WriteDone (line_text cycle readings.now) out.old result out.new }
     ensures number_value { 11 + 13 * length readings.now ≤ length out.old → number_of result ≡ 0 }
 {
     let mut number = [0u8; 20];
     let count = io::decimal(cycle as u64, &mut number);
-    line::<States, Reading>(&number[..count], readings, out)
+    line::<Readings, Reading>(&number[..count], readings, out)
 }
 
-// The closing line, of each node's firings. A slice of 6 bytes and 11 for each node is always enough.
+// Returns how long the closing line is, given each node's firings, and leaves the line at the start of
+// `out`. Refused by 13 where `out` is shorter than the line: then nothing is written. 6 bytes and 11 for
+// each node are always enough.
 #[tactic(auto, unfolding(crate::specs::Lines::closing_text, crate::specs::Lines::labelled_text, crate::specs::Ascii::ascii))]
 pub fn closing_line(firings: &[u32], out: &mut [u8]) -> Result<usize, Refusal>
     ensures write_done { WriteDone (closing_text firings.now) out.old result out.new }
@@ -188,8 +202,9 @@ pub fn closing_line(firings: &[u32], out: &mut [u8]) -> Result<usize, Refusal>
     line::<Counts, u32>(b"fired", firings, out)
 }
 
-// The line of a refusal. A slice of 19 bytes is always enough. The number is any: a `Refusal` would ask
-// more of the caller.
+// Returns how long the line of a refusal is, given the refusal's number, and leaves the line at the
+// start of `out`. Refused by 13 where `out` is shorter than the line: then nothing is written. 19 bytes
+// are always enough. The number is any: a `Refusal` would ask more of the caller.
 #[tactic(auto, unfolding(crate::specs::Lines::refused_text, crate::specs::Lines::labelled_text, crate::specs::Ascii::ascii))]
 pub fn refused_line(number: u8, out: &mut [u8]) -> Result<usize, Refusal>
     ensures write_done { WriteDone (refused_text number) out.old result out.new }

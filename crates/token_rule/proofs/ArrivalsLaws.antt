@@ -1,4 +1,5 @@
--- What has arrived on a channel is the first so many of its strict stream. Assumes nothing.
+-- The a tokens that have arrived on a channel are the first a of its strict stream. Assumes nothing.
+use Prim.Native.Char.{code}
 use Rattle.std.specs.Prelude.{Bool, true, false, ◌≡◌, ℕ, ◌+◌, ◌<◌, eqb, ℤ}
 use mathlib.Core.List.{List, [], ◌∷◌, ◌++◌}
 use Rattle.std.proofs.Math.Path.{ap}
@@ -40,15 +41,15 @@ module _ (img : List ℕ) (s : State) (c : ℕ) where
   unfoldable arriving_now : List ℤ
   arriving_now = passing (arriving (channel_in img s c)) (stop_below (depth img c) (channel_in img s c))
 
-  -- how many have arrived: those that were taken, and those that wait in the queue
+  -- how many tokens have arrived on a channel: those that were taken, and those that wait in the queue
   unfoldable arrived_so_far : ℕ
   arrived_so_far = firings_at s (to img c) + length (channel_in img s c).queue
 
-  reading_now : one_if (eqb (reading_at img s c).letter 84) (reading_at img s c).value ≡ arriving_now
+  reading_now : one_if (eqb (reading_at img s c).letter (code "T")) (reading_at img s c).value ≡ arriving_now
   unfolding reading_at channel_reading arriving_now
   reading_now = letter-passing (arriving (channel_in img s c)) (stop_below (depth img c) (channel_in img s c)) (arriving_few img s c)
 
-  -- they are the next of the stream
+  -- the tokens that arrive in a cycle are the next of the stream
   stretch_now : Sound img s → c < channels img → Stretch (stream img c) arrived_so_far arriving_now
   unfolding arriving_now arrived_so_far tokens arriving
   stretch_now ok h =

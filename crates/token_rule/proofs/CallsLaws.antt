@@ -41,7 +41,7 @@ cycles-append img d (call ∷ before) later =
     let e : d + length us + length vs ≡ d + length (us ++ vs) = omega (arith, length-append us vs) in
     rw (cycles-append img (d + length us) before later, e) (sym (append_assoc us vs (cycles_of img (d + length (us ++ vs)) later)))
 
--- those of a call stand behind those of the calls before it
+-- the cycles of a call stand behind those of the calls before it
 pub cycles_placed :
     (img : List ℕ) (before later : List Call) (call : Call)
     → let d = length (cycles_of img 0 before) in
@@ -53,7 +53,7 @@ cycles_placed img before later call =
     ∙ ap (λ d. cycles_of img 0 before ++ (cycles_in img d call ++ cycles_of img (d + length (cycles_in img d call)) later))
     (zero-add (length (cycles_of img 0 before)))
 
--- they never pass 1,000,000
+-- the cycles made never pass 1,000,000
 run_few : (img words : List ℕ) (d : ℕ) → d ≤ 1000000 → d + length (run_cycles img d words) ≤ 1000000
 unfolding run_cycles goes
 run_few img [] d h = omega arith

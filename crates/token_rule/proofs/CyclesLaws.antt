@@ -19,7 +19,7 @@ unfolding after
 after-append img s [] vs = refl
 after-append img s (u ∷ us) vs = after-append img (state_after img u s) us vs
 
--- the state's own counts
+-- what a state counts after a list of cycles
 pub cycles-after : (img : List ℕ) (s : State) (words : List ℕ) → (after img s words).cycles ≡ s.cycles + length words
 unfolding after
 cycles-after img s [] = omega arith
@@ -31,7 +31,7 @@ module _ (img : List ℕ) (a : Accepted img) where
   firings_after n h [] s = omega arith
   firings_after n h (w ∷ words) s = omega (arith, firings_after n h words (state_after img w s), firings_next img a w s n h)
 
-  -- a state that fits still fits, and a sound one stays sound
+  -- a state that fits fits after a list of cycles, and a sound one is sound after it
   pub fitting-after : (words : List ℕ) (s : State) → Fitting img s → s.cycles + length words ≤ 1000000 → Fitting img (after img s words)
   unfolding after
   fitting-after [] s ok h = ok

@@ -28,7 +28,7 @@ record Coming (img : List ℕ) (s : State) (n k : ℕ) : Type 0 where
   ahead : (c : ℕ) → c < channels img → to img c ≡ n → (j : ℕ) → j ≤ k → j ≤ stations img c → firings_at s n < entered img s c j
 
 module _ (img : List ℕ) (a : Accepted img) (n : ℕ) (there : n < nodes img) where
-  -- it stands before the queues: if the node is awake it fires, for no node that it feeds is further behind
+  -- a node whose next tokens stand before its queues fires if it is awake, for no node that it feeds is further behind
   coming-fires :
       (w : ℕ) (s : State) (k : ℕ) → Steady img s → Coming img s n k → ((c : ℕ) → c < channels img → stations img c ≤ k) → stalled w n ≡ false
       → fires img w s n ≡ true
@@ -40,7 +40,7 @@ module _ (img : List ℕ) (a : Accepted img) (n : ℕ) (there : n < nodes img) w
         free = λ c h e. omega (arith, limit_taken img s c a h 0, b.furthest (to img c) (a.wires c h).1);
       })
 
-  -- a cycle in which the node does not fire takes it one place further
+  -- a cycle in which node n does not fire takes its next tokens one place further
   coming-next : (w : ℕ) (s : State) (k : ℕ) → Steady img s → Coming img s n k → fires img w s n ≡ false → Coming img (state_after img w s) n (suc k)
   coming-next w s k ok b idle = record { furthest = λ i h. omega (arith, still, firings_next img a w s i h, b.furthest i h); ahead = further }
     where

@@ -83,14 +83,14 @@ module _ (img : List ℕ) (a : Accepted img) (calls : List Call) (chain : Chain 
         step-done img a (last_state (fresh_state img) before) (fits_there before (step x ∷ later) e) (length (cycles_of img 0 before))
         (count_there before (step x ∷ later) e) x (done_there before later (step x) e)
 
-    -- whether it made a cycle
+    -- a step that answered 0 made a cycle
     made_there : x.answer.number ≡ 0 → makes img (length (cycles_of img 0 before)) x ≡ true
     made_there z = sym step_there.made ∙ eq-eqb x.answer.number 0 z
 
     none_there : x.answer.number ≢ 0 → makes img (length (cycles_of img 0 before)) x ≡ false
     none_there f = sym step_there.made ∙ ne_eqb x.answer.number 0 f
 
-  -- no number but those that a step or a run can answer here
+  -- the calls of the list answer no number but those that a step or a run can answer here
   numbers_there :
       (before later : List Call) (call : Call) → calls ≡ before ++ (call ∷ later) → (number_of call ≢ 21) × (1 ≤ number_of call → 12 ≤ number_of call)
   unfolding number_of
@@ -102,7 +102,7 @@ module _ (img : List ℕ) (a : Accepted img) (calls : List Call) (chain : Chain 
       no_other x.answer.number (eqb x.answer.steps (length x.words)) (not (ltb (d + x.answer.steps) 1000000)) true
       (run_there before later x e).numbered
 
-  -- the last state: its node's firings and values
+  -- the last state: its nodes' firings and values
   whole : calls ≡ calls ++ []
   whole = sym (append-nil calls)
 

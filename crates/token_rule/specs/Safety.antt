@@ -8,6 +8,7 @@ use Rattle.shell.specs.Channel.{tokens}
 use Rattle.state.specs.declared.State.{State}
 use Rattle.state.specs.State.{value_at, firings_at, channel_in}
 
+-- a sound state: each node's value and each channel's tokens are the strict system's
 pub record Sound (img : List ℕ) (s : State) : Type 0 where
   -- a node that has fired k times shows the strict value of cycle k
   pub valued : (n : ℕ) → n < nodes img → value_at s n ≡ strict img n (firings_at s n)

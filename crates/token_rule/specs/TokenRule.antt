@@ -1,5 +1,5 @@
--- The statement: what the token rule says of a list of calls, in its own words and order. `TokenRuleLaws` proves it of every list of
--- steps and runs that did what their contracts ensure, from the fresh state of every accepted image.
+-- The statement: what the token rule says of a list of calls, in its own words and order. `proofs/TokenRuleLaws` proves it of every list of steps and
+-- runs that did what their contracts ensure, from the fresh state of every accepted image.
 use Rattle.std.specs.Prelude.{true, not, List, ◌∷◌, ◌++◌, ◌↔◌, ◌≢◌, ◌≡◌, ℕ, suc, ◌+◌, ◌<◌, ◌≤◌, eqb, ltb, length, drop}
 use Rattle.laws.specs.Choice.{◌if◌else◌}
 use Rattle.laws.specs.Table.{table}
@@ -26,15 +26,15 @@ pub record TokenRule (img : List ℕ) (start : State) (calls : List Call) (cycle
   -- "Each cycle is worked by the rules above on the state the cycle before left, the first on the fresh state." Wherever the list is cut, the state
   -- returned last is the one that the cycles so far have left
   pub worked : (before later : List Call) → calls ≡ before ++ later → last_state start before ≡ after img start (cycles_of img 0 before)
-  -- a step answers 0 exactly when what it was given makes a cycle;
+  -- a step answers 0 exactly when what it was given makes a cycle
   pub accepted :
       (before later : List Call) (x : Step) → calls ≡ before ++ (step x ∷ later)
       → (x.answer.number ≡ 0) ↔ (makes img (length (cycles_of img 0 before)) x ≡ true)
-  -- otherwise its number is the first of 22, 12 and 13 whose condition holds,
+  -- a step that is refused answers the first of 22, 12 and 13 whose condition holds
   pub refused :
       (before later : List Call) (x : Step) → calls ≡ before ++ (step x ∷ later) → x.answer.number ≢ 0
       → x.answer.number ≡ (22 if not (ltb (length (cycles_of img 0 before)) 1000000) else 12 if sets_above (nodes img) x.word else 13)
-  -- it has left its arrays as they were, and has returned the state that it was handed
+  -- a step that is refused has left its arrays as they were, and has returned the state that it was handed
   pub untouched :
       (before later : List Call) (x : Step) → calls ≡ before ++ (step x ∷ later) → x.answer.number ≢ 0
       → (x.letters_left ≡ x.letters) × (x.values_left ≡ x.values) × (x.answer.state ≡ last_state start before)
@@ -53,7 +53,7 @@ pub record TokenRule (img : List ℕ) (start : State) (calls : List Call) (cycle
   pub steps :
       (before later : List Call) (x : Run) → calls ≡ before ++ (run x ∷ later)
       → x.answer.steps ≡ length (run_cycles img (length (cycles_of img 0 before)) x.words)
-  -- and the run's number: 0 exactly when each of its words made a cycle, else 22 if 1,000,000 cycles were then done, else 12
+  -- a run's number is 0 exactly when each of its words made a cycle, else 22 if 1,000,000 cycles were then done, else 12
   pub ended :
       (before later : List Call) (x : Run) → calls ≡ before ++ (run x ∷ later)
       → x.answer.number ≡

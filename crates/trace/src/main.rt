@@ -4,6 +4,14 @@
 // The whole input is read and judged before anything is printed. Each line is made as a value, whose
 // contract says which line of the trace it is, and is then printed by one write; a write that fails
 // ends the program. Where the input cannot be read, nothing is printed.
+//
+// Reads its input, asks `trace_input::judge`, and makes each line as a value, by a call with an array
+// of its own. The contract of `cycle_line` says that the first bytes are `cycle_text` of the state and
+// that the state goes on by the word; it asks that the step is not refused, which `step_taken` gives
+// at each turn of the loop, whose invariant is that the state is the one after the first k words.
+// `closing_line` and `refusal_line` say as much of their lines. What no contract can say is left to a
+// reader of `print_trace` and `print_cycles` and to tests/trace.sh: that the reads bring the input,
+// and that each line is handed to `print` once, in order, and written by it.
 #![tactic(auto)]
 
 ghost use Rattle.std.specs.Prelude.{◌≡◌, min, length, take, Ok, IfOk};
@@ -11,8 +19,7 @@ ghost use Rattle.io.specs.Counts.{IsPrefixLen};
 ghost use Rattle.refusal.specs.Number.{number, number_of};
 ghost use Rattle.state.specs.Fresh.{fresh_state};
 ghost use Rattle.cycle.specs.Cycle.{state_after, after};
-ghost use Rattle.engine.specs.Answer.{step_number};
-ghost use Rattle.engine.specs.Loops.Taken.{state_number};
+ghost use Rattle.engine.specs.Answer.{step_number, state_number};
 ghost use Rattle.text.specs.Lines.{closing_text, refused_text};
 ghost use Rattle.writer.specs.Write.{Begins};
 ghost use Rattle.trace_input.specs.Input.{image_of, words_of, input_number};
@@ -23,15 +30,15 @@ use state::State;
 use std::io;
 
 // The longest input that is not refused: an image of 802 bytes and 4,096 words. What is beyond is only
-// counted (`tracer`'s specs/Head.antt).
+// counted (`tracer`'s specs/Laws/Head.antt).
 const LONGEST: usize = 33570;
 
 // Room for every line (`tracer::cycle_line`).
 const LINE: usize = 1259;
 
-// A line: the first `length` bytes. Made as a value, it has a contract, which a line that is written to a
-// stream has not: which text it begins with, each of those that make one says. It is no `Vec`: every line
-// has room, and no call can fail.
+// A line: the first `length` bytes. Made as a value, it has a contract, which a line that is written to
+// a stream has not: each function that makes a line says which text it begins with. It is no `Vec`:
+// every line has room, and no call can fail.
 #[derive(Clone, Copy)]
 struct Line {
     bytes: [u8; LINE],
@@ -54,7 +61,7 @@ struct Cycled {
     state: State,
 }
 
-// How many bytes of a line were written that is not refused.
+// How many bytes of a line were written, given the answer of a call that is not refused.
 #[tactic(auto, using(refusal::specs::Laws::Number::number_positive))]
 fn written(answer: Result<usize, Refusal>) -> usize
     requires { number_of answer ≡ 0 }
@@ -63,7 +70,8 @@ fn written(answer: Result<usize, Refusal>) -> usize
     answer.unwrap_or(0)
 }
 
-// A refusal's line. It and the next two promise each its own text: so what it begins with is no field of `Line`.
+// The line of a refusal. Each function that makes a line promises its own text: so what it begins with
+// is no field of `Line`.
 fn refusal_line(refusal: Refusal) -> Line
     ensures { Begins result.bytes result.length (refused_text (number refusal)) }
 {
@@ -86,7 +94,8 @@ fn cycle_line(image: &[u8], state: State, word: u64) -> Cycled
             },
             state: lined.state,
         },
-        // It is not refused. No `unwrap_or_else`: it would make a `Lined` of the refusal, to be taken apart again.
+        // The call is not refused. No `unwrap_or_else`: it would make a `Lined` of the refusal, to be
+        // taken apart again.
         Err(refused) => Cycled {
             line: Line { bytes, length: 0 },
             state: refused.state,
@@ -107,14 +116,15 @@ fn print(rt: &impl Print, line: Line) -> io::Result<()> {
     rt.write_all(line.text())
 }
 
-// A line for each word; and the state after the last.
+// Prints a line for each word, and tells the state after the last.
 fn print_cycles(rt: &impl Print, image: &[u8], input: &[u8]) -> io::Result<State>
     requires image_value { image.now ≡ image_of input.now }
     requires input_value { input_number input.now (length input.now) ≡ 0 }
     ensures { IfOk result (λ state. state ≡ after image.now (fresh_state image.now) (words_of input.now)) }
 {
     let mut state = State::fresh(image).unwrap_or_else(|refused| refused.state);
-    // By places: over the words' bytes it would be no plainer, since what number they are `word_at` says.
+    // By places: over the words' bytes it would be no plainer, since what number they are `word_at`
+    // says.
     for k in 0..trace_input::words(input) {
         let cycled = cycle_line(image, state, trace_input::word_at(input, k));
         state = cycled.state;
@@ -123,7 +133,7 @@ fn print_cycles(rt: &impl Print, image: &[u8], input: &[u8]) -> io::Result<State
     Ok(state)
 }
 
-// The trace of an input that is not refused.
+// Prints the trace of an input that is not refused.
 fn print_trace(rt: &impl Print, image: &[u8], input: &[u8]) -> io::Result<()>
     requires image_value { image.now ≡ image_of input.now }
     requires input_value { input_number input.now (length input.now) ≡ 0 }
@@ -133,7 +143,7 @@ fn print_trace(rt: &impl Print, image: &[u8], input: &[u8]) -> io::Result<()>
     print(rt, closing_line(image, state))
 }
 
-// An input of `size` bytes, of which these are the first.
+// Prints what is due for an input of `size` bytes, of which `input` are the first.
 fn trace(rt: &impl Print, input: &[u8], size: u64) -> io::Result<()>
     requires { length input.now ≡ min size 33570 }
 {

@@ -7,33 +7,36 @@ use Rattle.image.specs.Image.{nodes, channels, four_bytes}
 use Rattle.verdict.specs.Judge.{judge}
 use Rattle.engine.specs.Answer.{sets_above}
 
--- how long the image is by its own N and C
+-- how many bytes the image of an input has by its own N and C
 unfoldable pub image_due : List ℕ → ℕ
 image_due input = 2 + 5 * nodes input + 5 * channels input
 
--- the image: so many bytes, or fewer where some are missing
+-- the image of an input: its first `image_due` bytes, or fewer where some are missing
 unfoldable pub image_of : List ℕ → List ℕ
 image_of input = take (image_due input) input
 
--- word k, and how many whole words there are
+-- word k of an input, which has its words behind the image
 unfoldable pub word_at : List ℕ → ℕ → ℕ
 word_at input k = let at = image_due input + 8 * k in four_bytes input at + 2 ^ 32 * four_bytes input (at + 4)
 
+-- how many whole words follow the image of an input
 unfoldable pub word_count : List ℕ → ℕ
 word_count input = (length input - image_due input) / 8
 
+-- the whole words of an input, in order
 unfoldable pub words_of : List ℕ → List ℕ
 words_of input = table (word_at input) (word_count input)
 
--- word k sets a bit at or above N; some word does
+-- whether word k of an input sets a bit at or above N
 abbrev pub above_at : List ℕ → ℕ → Bool
 above_at input k = sets_above (nodes input) (word_at input k)
 
+-- whether some word of an input sets a bit at or above N
 abbrev pub any_above : List ℕ → Bool
 any_above input = any_below (above_at input) (word_count input)
 
--- the number, or 0, from the image's own, the length of what follows the image, and whether a word is bad. "Bytes missing from the image, or a tail
--- not of whole words, give 3. Order: 1 to 11, 14, 12 over all words."
+-- an input's number, or 0, given its image's own, the length of what follows the image, and whether some word sets a bit at or above N. "Bytes
+-- missing from the image, or a tail not of whole words, give 3. Order: 1 to 11, 14, 12 over all words."
 abbrev pub number_from : ℕ → ℕ → Bool → ℕ
 number_from judged tail above =
     -- 1 and 2, and 3 for bytes missing from the image
@@ -48,6 +51,6 @@ number_from judged tail above =
     12 if above else
     0
 
--- the number of an input of `size` bytes whose first bytes are given
+-- the number of an input of `size` bytes that begins with the given ones
 unfoldable pub input_number : List ℕ → ℕ → ℕ
 input_number input size = number_from (judge (image_of input)) (size - image_due input) (any_above input)

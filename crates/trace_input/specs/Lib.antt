@@ -1,3 +1,3 @@
--- What the trace program reads. What the contracts say, and what a reader has to believe: the image and the words that an input holds, and its number.
+-- Defines what the trace program reads: the image and the words that an input holds, and the input's number.
 pub mod Input
 pub mod Laws

@@ -1,5 +1,5 @@
-// What standard input holds for the trace program: an image, and then 8-byte stall words, low byte first. A function
-// that reads words takes the whole input.
+// What standard input holds for the trace program: an image, and then 8-byte stall words, low byte
+// first. A function that reads words takes the whole input.
 #![tactic(auto)]
 
 ghost use Rattle.std.specs.Prelude.{not, ◌&&◌, ◌≡◌, eqb, ltb, length, get_or, drop};
@@ -22,8 +22,8 @@ fn image_due(input: &[u8]) -> usize
     2 + 5 * n + 5 * c
 }
 
-// How many bytes of the input are the image's: as many as its N and C ask for, or all of them where
-// some are missing.
+// Returns how many bytes of the input are the image's: as many as its N and C ask for, or all of them
+// where some are missing.
 pub fn image_length(input: &[u8]) -> usize
     ensures value { result ≡ length (image_of input.now) }
     ensures prefix_len { IsPrefixLen result input.now }
@@ -39,21 +39,21 @@ fn whole_words(input: &[u8]) -> &[[u8; 8]]
     input[image_length(input)..].as_chunks::<8>().0
 }
 
-// How many whole words follow the image.
+// Returns how many whole words follow the image.
 pub fn words(input: &[u8]) -> usize
     ensures { result ≡ word_count input.now }
 {
     whole_words(input).len()
 }
 
-// Word k of the input, 0 past the last.
+// Returns word k of the input, 0 past the last.
 pub fn word_at(input: &[u8], k: usize) -> u64
     ensures { result ≡ get_or (words_of input.now) k 0 }
 {
     u64::from_le_bytes(whole_words(input).get(k).copied().unwrap_or([0; 8]))
 }
 
-// Number 12: whether some word sets a bit at or above N. By number: the definitions name word k.
+// Whether some word of the input sets a bit at or above N (12). By number: the definitions name word k.
 fn any_above(input: &[u8]) -> bool
     ensures { result ≡ any_above input.now }
 {
@@ -71,9 +71,11 @@ fn found_early(judged: Result<(), Refusal>) -> bool
     )
 }
 
-// Whether an input of `size` bytes that begins with `head` is refused. With the first 33,570 bytes, or all
-// where there are fewer, the answer is the whole input's: no image is longer than 802 bytes, and 4,096
-// words take 32,768. So a reader need only count what is beyond.
+// Returns whether an input is refused, given its size and the bytes `head` that it begins with. Refused
+// by 1 to 11, then by 14 for over 4,096 words, then by 12 for a word that sets a bit at or above N; 3
+// also where what follows the image is not whole words. With the first 33,570 bytes, or all where there
+// are fewer, the answer is the whole input's: no image is longer than 802 bytes, and 4,096 words take
+// 32,768. So a reader need only count what is beyond.
 pub fn judge(head: &[u8], size: u64) -> Result<(), Refusal>
     ensures { number_of result ≡ input_number head.now size }
 {

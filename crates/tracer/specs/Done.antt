@@ -1,13 +1,12 @@
--- What a call for a cycle's line and one for the closing line have done, by equations with the definitions: what was returned, and what the lent slice
--- holds after it. Each contract ensures its record as it stands here.
+-- What a call for a cycle's line and one for the closing line have done, by equations with the definitions: what was returned, and what the lent
+-- slice holds after it. Each contract ensures its record as it stands here.
 use Rattle.std.specs.Prelude.{not, List, ◌≡◌, ℕ, eqb, Result, Ok, Err}
 use Rattle.laws.specs.Choice.{◌if◌else◌}
 use Rattle.refusal.specs.Number.{number}
 use Rattle.state.specs.declared.Refused.{Refused}
 use Rattle.state.specs.declared.State.{State}
 use Rattle.cycle.specs.Cycle.{state_after}
-use Rattle.engine.specs.Answer.{step_number}
-use Rattle.engine.specs.Loops.Taken.{state_number}
+use Rattle.engine.specs.Answer.{step_number, state_number}
 use Rattle.text.specs.Lines.{closing_text}
 use Rattle.writer.specs.Write.{written_answer, written_over, WriteTold, write_told}
 use Rattle.tracer.specs.declared.Lined.{Lined}
@@ -19,12 +18,16 @@ pub record LineTold : Type 0 where
   pub length : ℕ
   pub state : State
 
+-- what the code's answer of a call for a cycle's line tells
 abbrev pub line_told : Result Lined Refused → LineTold
 line_told (Ok line) = record { number = 0; length = line.length; state = line.state }
 line_told (Err r) = record { number = number r.refusal; length = 0; state = r.state }
 
--- ---- the line of a cycle: a step's numbers, "1 to 11 rising ..; then 21, 22, 12" (96 places for letters and values are always enough), and then a writer's
+-- ---- the line of a cycle
+-- a call for a cycle's line has a step's numbers, "1 to 11 rising ..; then 21, 22, 12" (96 places for letters and values are always enough), and then
+-- a writer's
 module _ (img : List ℕ) (s : State) (word : ℕ) (out : List ℕ) where
+  -- what a call for a cycle's line answers, from the state s with a stall word and a slice that holds `out`
   unfoldable pub line_answer : LineTold
   line_answer =
       let number = step_number img s word 96 96 in
@@ -33,23 +36,29 @@ module _ (img : List ℕ) (s : State) (word : ℕ) (out : List ℕ) where
       -- only a line that was written makes a cycle
       record { number = written.number; length = written.length; state = state_after img word s if eqb written.number 0 else s }
 
+  -- what the slice holds after a call for a cycle's line
   unfoldable pub line_over : List ℕ
   line_over = out if not (eqb (step_number img s word 96 96) 0) else written_over (cycle_text img s) out
 
+-- what a call for a cycle's line has done
 pub record LineDone (img : List ℕ) (s : State) (word : ℕ) (out : List ℕ) (answer : LineTold) (left : List ℕ) : Type 0 where
   pub answered : answer ≡ line_answer img s word out
   pub over : left ≡ line_over img s word out
 
--- ---- the closing line after a state: the image's numbers, 21, and then a writer's
+-- ---- the closing line
+-- a call for the closing line after a state has the image's numbers, 21, and then a writer's
 module _ (img : List ℕ) (s : State) (out : List ℕ) where
+  -- what a call for the closing line answers, after the state s with a slice that holds `out`
   unfoldable pub closing_answer : WriteTold
   closing_answer =
       record { number = state_number img s; length = 0 } if not (eqb (state_number img s) 0) else
       write_told (written_answer (closing_text (firings_of img s)) out)
 
+  -- what the slice holds after a call for the closing line
   unfoldable pub closing_over : List ℕ
   closing_over = out if not (eqb (state_number img s) 0) else written_over (closing_text (firings_of img s)) out
 
+-- what a call for the closing line has done
 pub record ClosingDone (img : List ℕ) (s : State) (out : List ℕ) (answer : WriteTold) (left : List ℕ) : Type 0 where
   pub answered : answer ≡ closing_answer img s out
   pub over : left ≡ closing_over img s out

@@ -1,5 +1,4 @@
--- What the trace program prints. What the contracts say, and what a reader has to believe: the trace of an image and words, and what the program prints
--- for an input.
+-- Defines the trace of an image and words, what the trace program prints for an input, and what the calls for its lines have done.
 pub mod Trace
 pub mod Done
 pub mod Laws

@@ -12,19 +12,20 @@ use Rattle.text.specs.Lines.{line_text, refused_text}
 use Rattle.text.specs.Trace.{trace_text}
 use Rattle.trace_input.specs.Input.{image_of, words_of, input_number}
 
--- "for each cycle .. each channel's letter, with its value": the row of the cycle that a state begins, and of each cycle from there on
+-- the readings of the cycle that starts from a state: "for each cycle .. each channel's letter, with its value"
 abbrev pub readings_of : List ℕ → State → List Reading
 readings_of img s = table (reading_at img s) (channels img)
 
+-- the readings of each cycle from a state on, one cycle for each word
 unfoldable pub readings_from : List ℕ → State → List ℕ → List (List Reading)
 readings_from img s [] = []
 readings_from img s (word ∷ words) = readings_of img s ∷ readings_from img (state_after img word s) words
 
--- that cycle's line
+-- the line of the cycle that starts from a state
 unfoldable pub cycle_text : List ℕ → State → List ℕ
 cycle_text img s = line_text s.cycles (readings_of img s)
 
--- "each node's firings"
+-- "each node's firings", as a state counts them
 unfoldable pub firings_of : List ℕ → State → List ℕ
 firings_of img s = table (firings_at s) (nodes img)
 

@@ -1,4 +1,4 @@
--- What acceptance gives: all that other crates use of the judge. `AcceptedLaws` proves that an accepted image has it, and only such an image.
+-- What acceptance gives: all that other crates use of the judge. Laws/Accepted proves that an accepted image has it, and only such an image.
 use Rattle.std.specs.Prelude.{List, ◌≡◌, ℕ, ◌≤◌, ◌<◌, ◌+◌, ◌*◌, length}
 use Rattle.laws.specs.Below.{sum_below}
 use Rattle.image.specs.Image.{nodes, channels, kind, from, to, port, stations, depth, inputs}
@@ -10,9 +10,9 @@ pub record Feeder (img : List ℕ) (n p : ℕ) : Type 0 where
   pub node : to img channel ≡ n
   pub input : port img channel ≡ p
 
--- In the rules' words: "N (nodes, 1 to 64)", "C (channels, 0 to 96)", "The length is 2 + 5N + 5C", the table of kinds, wires that name
--- nodes and ports that are there, "Each input port is fed by exactly one channel" (by no second, and by one), "stations 0 to 8, queue 1 to 8",
--- "At most 256 stations stand in one image".
+-- what an accepted image has, in the rules' words: "N (nodes, 1 to 64)", "C (channels, 0 to 96)", "The length is 2 + 5N + 5C", the table of kinds,
+-- wires that name nodes and ports that are there, "Each input port is fed by exactly one channel" (by no second, and by one),
+-- "stations 0 to 8, queue 1 to 8", "At most 256 stations stand in one image".
 pub record Accepted (img : List ℕ) : Type 0 where
   pub some_nodes : 1 ≤ nodes img
   pub few_nodes : nodes img ≤ 64

@@ -5,31 +5,31 @@ use Rattle.laws.specs.Choice.{◌if◌else◌}
 use Rattle.laws.specs.Range.{outside}
 use Rattle.image.specs.Image.{nodes, channels, kind, from, to, port, feeds, stations, depth, inputs}
 
--- 4, of node n: "kind not 1 to 9"
+-- whether number 4 has a cause at node n: "kind not 1 to 9"
 unfoldable pub bad_kind : List ℕ → ℕ → Bool
 bad_kind img n = outside 1 9 (kind img n)
 
--- 5, of channel c: "wire names a node not there"
+-- whether number 5 has a cause at channel c: "wire names a node not there"
 unfoldable pub bad_wire : List ℕ → ℕ → Bool
 bad_wire img c = leb (nodes img) (from img c) || leb (nodes img) (to img c)
 
--- 6, of channel c: "port not below the to node's inputs"
+-- whether number 6 has a cause at channel c: "port not below the to node's inputs"
 unfoldable pub bad_port : List ℕ → ℕ → Bool
 bad_port img c = leb (inputs (kind img (to img c))) (port img c)
 
--- 7, of channel c: "a port fed twice", by c and by a channel before it
+-- whether number 7 has a cause at channel c: "a port fed twice", by c and by a channel before it
 unfoldable pub fed_twice : List ℕ → ℕ → Bool
 fed_twice img c = any_below (feeds img (to img c) (port img c)) c
 
--- 8, of node n: "a port not fed"
+-- whether number 8 has a cause at node n: "a port not fed"
 unfoldable pub not_fed : List ℕ → ℕ → Bool
 not_fed img n = any_below (λ p. not (any_below (feeds img n p) (channels img))) (inputs (kind img n))
 
--- 9, of channel c: "stations over 8"
+-- whether number 9 has a cause at channel c: "stations over 8"
 unfoldable pub bad_stations : List ℕ → ℕ → Bool
 bad_stations img c = ltb 8 (stations img c)
 
--- 10, of channel c: "queue 0 or over 8"
+-- whether number 10 has a cause at channel c: "queue 0 or over 8"
 unfoldable pub bad_depth : List ℕ → ℕ → Bool
 bad_depth img c = outside 1 8 (depth img c)
 
@@ -42,7 +42,7 @@ judge img =
     2 if outside 1 64 (nodes img) || ltb 96 (channels img) else
     -- length not 2 + 5N + 5C
     3 if not (eqb (length img) (2 + 5 * nodes img + 5 * channels img)) else
-    -- each of these at some node or channel
+    -- numbers 4 to 10 at some node or channel
     4 if any_below (bad_kind img) (nodes img) else
     5 if any_below (bad_wire img) (channels img) else
     6 if any_below (bad_port img) (channels img) else

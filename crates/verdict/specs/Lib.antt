@@ -1,6 +1,5 @@
--- The judge. What its contract says, and what a reader has to believe.
+-- The judge: whether it accepts an image, the number with which it refuses one, and what holds of an accepted image.
 pub mod Judge
--- For other crates: what acceptance gives; that the first 803 bytes of an input decide.
 pub mod Accepted
 pub mod Laws
 pub mod Loops

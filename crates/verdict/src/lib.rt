@@ -1,4 +1,9 @@
 // The judge: whether an image is a netlist, and if not, why.
+//
+// `judge` tests 1 to 3 and hands on to `passes::contents`, which asks in the definition's order and
+// words: whether any node has a bad kind (4), any channel a bad wire (5) or a bad port (6), and so on
+// to the sum for 11, each over the whole image before the next. The pass that finds 7 notes the ports
+// that are fed on its way, and indexes by node and port: it is made only once 5 and 6 are settled.
 #![tactic(auto)]
 
 mod passes;
@@ -19,7 +24,8 @@ fn bad_sizes(n: u8, c: u8) -> bool
     ((n < 1) | (64 < n)) | (96 < c)
 }
 
-// The judge: the first of the refusals 1 to 11 that has a cause in the image, if one has.
+// Returns `Ok`, given an image that is a netlist; given any other, the first of the refusals 1 to 11
+// that has a cause in it.
 #[tactic(auto, unfolding(crate::specs::Judge::judge))]
 pub fn judge(image: &[u8]) -> Result<(), Refusal>
     ensures { number_of result ≡ judge image.now }

@@ -1,6 +1,6 @@
-// The judge's tests of an image whose length fits its sizes. Each is settled over all nodes or all channels
-// before the next is looked at. All but `feed_ports` ask for nothing: what lies past
-// the image's end is 0.
+// The judge's tests of an image whose length fits its sizes. Each is settled over all nodes or all
+// channels before the next is looked at. All but `contents` and `feed_ports` ask for nothing: what lies
+// past the image's end is 0.
 ghost use Rattle.std.specs.Prelude.{◌≡◌, IfOk};
 ghost use Rattle.laws.specs.Below.{any_below, sum_below};
 ghost use Rattle.laws.specs.Choice.{◌if◌else◌};
@@ -14,7 +14,8 @@ ghost use Rattle.verdict.specs.Loops.Passes.{depth_number, fed_below, twice_belo
 use image::{channels, kind_at, nodes, wire_at};
 use refusal::Refusal;
 
-// By number, 0 for what is no kind: the judge asks before it knows that a kind is one, and needs no pearls.
+// How many inputs each kind has, by its number, and 0 for what is no kind: the judge asks before it
+// knows that a number is a kind, and needs no pearls.
 const INPUTS: [u8; 10] = [0, 0, 1, 1, 1, 1, 2, 2, 2, 3];
 
 // How many inputs a node of a kind has, 0 for a number that is no kind.
@@ -25,7 +26,7 @@ fn inputs(kind: u8) -> u8
     INPUTS.get(kind as usize).copied().unwrap_or(0)
 }
 
-// Number 4, of node n.
+// Whether number 4 has a cause at node n.
 #[tactic(auto, unfolding(crate::specs::Judge::bad_kind))]
 fn bad_kind(image: &[u8], n: u8) -> bool
     ensures { result ≡ bad_kind image.now n }
@@ -34,7 +35,7 @@ fn bad_kind(image: &[u8], n: u8) -> bool
     (kind < 1) | (9 < kind)
 }
 
-// Number 5, of channel c.
+// Whether number 5 has a cause at channel c.
 #[tactic(auto, unfolding(crate::specs::Judge::bad_wire, image::specs::Readers::wire_at))]
 fn bad_wire(image: &[u8], c: u8) -> bool
     ensures { result ≡ bad_wire image.now c }
@@ -44,7 +45,7 @@ fn bad_wire(image: &[u8], c: u8) -> bool
     (nodes <= wire.from) | (nodes <= wire.to)
 }
 
-// Number 6, of channel c.
+// Whether number 6 has a cause at channel c.
 #[tactic(auto, unfolding(crate::specs::Judge::bad_port, image::specs::Readers::wire_at))]
 fn bad_port(image: &[u8], c: u8) -> bool
     ensures { result ≡ bad_port image.now c }
@@ -53,7 +54,8 @@ fn bad_port(image: &[u8], c: u8) -> bool
     inputs(kind_at(image, wire.to)) <= wire.port
 }
 
-// The ports that are fed, 3 places a node as the definition has them, if none is fed twice: number 7.
+// Returns which ports are fed, 3 places a node as the definition has them, or refusal 7 if one is fed
+// twice.
 fn feed_ports(image: &[u8]) -> Result<[bool; 192], Refusal>
     requires { Wired image.now (channels image.now) }
     ensures number { number_of result ≡ (7 if twice_below image.now (channels image.now) else 0) }
@@ -72,7 +74,7 @@ fn feed_ports(image: &[u8]) -> Result<[bool; 192], Refusal>
     Ok(ports)
 }
 
-// Number 8, of node n: whether a port of it is not among those fed.
+// Whether number 8 has a cause at node n: a port of it is not among those that are fed.
 #[tactic(auto, unfolding(crate::specs::Loops::Passes::misses))]
 fn misses_port(image: &[u8], ports: &[bool; 192], n: u8) -> bool
     ensures { result ≡ misses image.now ports.now n }
@@ -83,7 +85,7 @@ fn misses_port(image: &[u8], ports: &[bool; 192], n: u8) -> bool
     })
 }
 
-// Number 9, of channel c.
+// Whether number 9 has a cause at channel c.
 #[tactic(auto, unfolding(crate::specs::Judge::bad_stations, image::specs::Readers::wire_at))]
 fn bad_stations(image: &[u8], c: u8) -> bool
     ensures { result ≡ bad_stations image.now c }
@@ -91,7 +93,7 @@ fn bad_stations(image: &[u8], c: u8) -> bool
     8 < wire_at(image, c).stations
 }
 
-// Number 10, of channel c.
+// Whether number 10 has a cause at channel c.
 #[tactic(auto, unfolding(crate::specs::Judge::bad_depth, image::specs::Readers::wire_at))]
 fn bad_depth(image: &[u8], c: u8) -> bool
     ensures { result ≡ bad_depth image.now c }
@@ -100,7 +102,8 @@ fn bad_depth(image: &[u8], c: u8) -> bool
     (depth < 1) | (8 < depth)
 }
 
-// The stations on all channels, for number 11. No `sum`: that each addition fits is the loop's invariant.
+// Returns how many stations stand on all channels, for number 11. No `sum`: that each addition fits is
+// the loop's invariant.
 #[tactic(auto, unfolding(image::specs::Readers::wire_at))]
 fn all_stations(image: &[u8]) -> u32
     ensures { result ≡ sum_below (stations image.now) (channels image.now) }
@@ -112,7 +115,7 @@ fn all_stations(image: &[u8]) -> u32
     total
 }
 
-// Numbers 9 to 11.
+// Returns `Ok`, or the first of the refusals 9 to 11 that has a cause in the image.
 #[tactic(auto, unfolding(crate::specs::Loops::Passes::depth_number))]
 fn judge_depths(image: &[u8]) -> Result<(), Refusal>
     ensures { number_of result ≡ depth_number image.now }
@@ -130,7 +133,8 @@ fn judge_depths(image: &[u8]) -> Result<(), Refusal>
     Ok(())
 }
 
-// Numbers 4 to 11, of an image that has none of 1 to 3.
+// Returns `Ok`, or the first of the refusals 4 to 11 that has a cause, given an image in which 1 to 3
+// have none.
 pub(crate) fn contents(image: &[u8]) -> Result<(), Refusal>
     requires { Sized image.now }
     ensures { number_of result ≡ judge image.now }

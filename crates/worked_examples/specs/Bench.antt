@@ -1,4 +1,4 @@
--- The definitions here, computed: a table of readings and eleven more cycles through a station, rows of 1, 2 and 8, and what is refused.
+-- The benches, computed: a table of readings and eleven more cycles through a station, rows of 1, 2 and 8, and what is refused.
 use Prim.Native.Char.{code}
 use Rattle.std.specs.Prelude.{true, false, List, [], ◌∷◌, ◌++◌, ◌≡◌, refl, ℕ, eqb, ℤ, pos, negsuc, replicate, None, Some}
 use Rattle.laws.specs.Below.{all_below}
@@ -12,7 +12,7 @@ use Rattle.bench.specs.declared.Records.{Records}
 use Rattle.bench.specs.Bench.{Told, fits, bench_number, refusal, reply, bench_answer, bench_after}
 use Rattle.bench.specs.ByValue.{station_benched, row_benched, records_benched}
 
--- the answers T, R, I and S, where no token was taken; the same where one was
+-- the answers T, R, I and S of a bench that took no token
 abbrev t : ℕ → Told
 t x = record { number = 0; letter = code "T"; value = pos x; taken = false }
 
@@ -25,6 +25,7 @@ i = record { number = 0; letter = code "I"; value = pos 0; taken = false }
 abbrev s : Told
 s = record { number = 0; letter = code "S"; value = pos 0; taken = false }
 
+-- the answer of a bench that took its token
 abbrev took : Told → Told
 took a = record { number = a.number; letter = a.letter; value = a.value; taken = true }
 
@@ -35,7 +36,7 @@ station a b n = record { tokens = a ∷ b ∷ []; count = n }
 abbrev none : Station
 none = station (pos 0) (pos 0) 0
 
--- a row through many cycles. For each: the token that comes in, of which 0 stands for none, and the stop below
+-- the link of a token, of which 0 stands for none
 abbrev offered : ℕ → Link
 offered x = None if eqb x 0 else Some (pos x)
 
@@ -112,9 +113,9 @@ unfolding
     bench_after
 eight = (refl, refl, refl, refl)
 
--- ---- what is refused: 15, also where a record does not fit; 21 for a count over 2, an unused token of a station that holds one or none, and one
--- such
--- record among others. The row stays
+-- ---- what is refused
+-- 15 also where a record does not fit; 21 for a count over 2, an unused token of a station that holds one or none, and such a record among others.
+-- The row stays
 refusals :
     let over : Station = station (pos 4) (pos 5) 3 in
     let behind : Station = station (pos 4) (pos 5) 1 in
@@ -128,8 +129,8 @@ refusals :
 unfolding all_below zero_from fits bench_number refusal bench_answer bench_after
 refusals = (refl, refl, refl, refl, refl, refl, refl, refl, refl, refl, refl, refl)
 
--- ---- by value: a station; more records than a row by value has; two of nine records, of which the others stay though one does not fit; more than
--- nine
+-- ---- by value
+-- a station; more records than a row by value has; two of nine records, of which the others stay though one does not fit; more than nine
 by_value :
     let one : Station = station (pos 1) (pos 0) 1 in
     let nine : Records = record { stations = one ∷ one ∷ station (pos 1) (pos 2) 7 ∷ replicate 6 one } in

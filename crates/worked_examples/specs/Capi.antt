@@ -1,5 +1,5 @@
--- The definitions here, computed: tokens at the ends of their range; figure 4's state after five cycles, and one with stations and tokens below 0
--- after twelve; bytes of another length; rows of whole records and others.
+-- The bytes that C is handed, computed: tokens at the ends of their range; figure 4's state after five cycles, and one with stations and tokens below
+-- 0 after twelve; bytes of another length; rows of whole records and others.
 use mathlib.Core.List.{List, [], ◌∷◌, ◌++◌, map, flat_map}
 use Rattle.std.specs.Prelude.{◌≡◌, refl, ℕ, pos, negsuc, take, drop, replicate}
 use Rattle.laws.specs.Below.{all_below, any_below, sum_below, pick_below}
@@ -22,17 +22,17 @@ use Rattle.state.specs.Fresh.{fresh_state}
 use Rattle.fitting.specs.Fits.{fits, cycles_fit}
 use Rattle.cycle.specs.Cycle.{stalled, input_at, blocked_at, all_ready, any_blocked, fires, node_after, channel_after_at, state_after, after}
 use Rattle.worked_examples.specs.Engine.{stationed, stalls}
-use Rattle.engine.specs.Loops.Taken.{state_number}
+use Rattle.engine.specs.Answer.{state_number}
 use Rattle.bench.specs.Bench.{bench_number}
 use Rattle.bench.specs.Bench as bench
 use Rattle.layout.specs.Bytes.{number_bytes, bits_of, token_bytes, node_bytes, station_bytes, queue_bytes, state_bytes}
 use Rattle.layout.specs.Bytes.{token_in, station_in, places_in, no_state, state_in, no_record, record_in, row_record, record_count, row_in}
 
--- n bytes from a place on
+-- n of the bytes, from a place on
 abbrev part : ℕ → ℕ → List ℕ → List ℕ
 part at n bytes = take n (drop at bytes)
 
--- a queue or a record of small tokens
+-- a token below 256 as its bytes
 abbrev four : ℕ → List ℕ
 four n = n ∷ 0 ∷ 0 ∷ 0 ∷ []
 
@@ -58,12 +58,12 @@ tokens =
       a_record = refl;
     }
 
--- figure 4 after the words 1 0 0 16 0
+-- figure 4's state after the words 1 0 0 16 0, as bytes
 abbrev five : List ℕ
 five = state_bytes (after figure4 (fresh_state figure4) (1 ∷ 0 ∷ 0 ∷ 16 ∷ 0 ∷ []))
 
 record Figure4 : Type 0 where
-  -- five cycles; the values 14, 105, 114, 114 and 112, and the firings 4, 5, 3, 4 and 3; nothing for the 59 nodes that are not there
+  -- cycle count 5; values 14, 105, 114, 114 and 112 and firings 4, 5, 3, 4 and 3; nothing for the 59 nodes that are not there
   nodes-first :
       take 516 five ≡
       four 5 ++ four 14 ++ four 4 ++ four 105 ++ four 5 ++ four 114 ++ four 3 ++ four 114 ++ four 4 ++ four 112 ++ four 3 ++ replicate 472 0
@@ -82,12 +82,12 @@ unfolding all_below any_below pick_below signed padded table flat_map
     number_bytes bits_of token_bytes node_bytes station_bytes queue_bytes state_bytes
 figure4_bytes = record { nodes-first = refl; pending-next = refl; queues_last = refl }
 
--- a netlist with stations after twelve words
+-- the state of a netlist with stations after twelve words, as bytes
 abbrev twelve : List ℕ
 twelve = state_bytes (after stationed (fresh_state stationed) (take 12 stalls))
 
 record Stationed : Type 0 where
-  -- twelve cycles; the count shows 15 and has fired 5 times, the sum shows -309 and has fired 4 times
+  -- cycle count 12; the count shows 15 and has fired 5 times, the sum shows -309 and has fired 4 times
   nodes-first : take 20 twelve ≡ four 12 ++ four 15 ++ four 5 ++ (203 ∷ 254 ∷ 255 ∷ 255 ∷ four 4)
   -- the station of channel 0 holds 14 and 15
   full-station : part 612 9 twelve ≡ four 14 ++ four 15 ++ (2 ∷ [])
@@ -111,10 +111,10 @@ record Lengths : Type 0 where
   none : state_number figure4 (state_in []) ≡ 21
   too_few : state_number figure4 (state_in (replicate 10691 0)) ≡ 21
   too_many : state_number figure4 (state_in (replicate 10693 0)) ≡ 21
-  -- and rows of 0, 5, 9, 10, 72, 73, 80 and 81 bytes
+  -- rows of 0, 5, 9, 10, 72, 73, 80 and 81 bytes
   rows :
       map (λ n. bench_number (row_in (replicate n 0))) (0 ∷ 5 ∷ 9 ∷ 10 ∷ 72 ∷ 73 ∷ 80 ∷ 81 ∷ []) ≡ 15 ∷ 21 ∷ 0 ∷ 21 ∷ 0 ∷ 15 ∷ 15 ∷ 15 ∷ []
-  -- and a station of 0, 8, 9, 10 and 18
+  -- a station of 0, 8, 9, 10 and 18 bytes
   records : map (λ n. bench_number (record_in (replicate n 0) ∷ [])) (0 ∷ 8 ∷ 9 ∷ 10 ∷ 18 ∷ []) ≡ 21 ∷ 21 ∷ 0 ∷ 21 ∷ 21 ∷ []
 
 lengths : Lengths

@@ -1,5 +1,5 @@
--- The definitions, computed: figure 4, whole; a netlist with stations on every channel through twenty cycles with stalls;
--- states that fit their image and states that do not; the numbers of a step and of a run, in their order.
+-- The step and the run, computed: figure 4, whole; a netlist with stations on every channel through twenty cycles with stalls; states that fit their
+-- image and states that do not; the numbers of a step and of a run, in their order.
 use Prim.Native.Char.{code}
 use Rattle.std.specs.Prelude.{Bool, true, false, ◌&&◌, ◌||◌, List, [], ◌∷◌, ◌++◌, map, ◌≡◌, refl, ℕ, eqb, leb, ltb, ℤ, pos, get_or, set, replicate}
 use Rattle.std.proofs.Common.{sym, ap, ◌∙◌, arith}
@@ -34,7 +34,7 @@ use Rattle.fitting.specs.Fits.{unused_clear, balanced, fits}
 use Rattle.engine.specs.Answer.{sets_above, step_number, number_of_step, step_answer, letters_written, values_written, step_more, ran_from, run_answer}
 use Rattle.engine.specs.Laws.Answer.{step-none, step-made}
 
--- the trace's lines from a state on, and each node's firings after them
+-- the readings of each cycle of a trace from a state on, and each node's firings after the last
 abbrev lines : List ℕ → State → List ℕ → List (List Reading)
 lines img st [] = []
 lines img st (w ∷ ws) = table (reading_at img st) (channels img) ∷ lines img (state_after img w st) ws
@@ -62,7 +62,7 @@ abbrev pub stalls : List ℕ
 stalls = 4 ∷ 10 ∷ 0 ∷ 2 ∷ 7 ∷ 5 ∷ 13 ∷ 9 ∷ 0 ∷ 0 ∷ 9 ∷ 13 ∷ 3 ∷ 4 ∷ 11 ∷ 12 ∷ 0 ∷ 0 ∷ 14 ∷ 0 ∷ []
 
 record Traced : Type 0 where
-  -- "The whole output"
+  -- figure 4's trace, "The whole output"
   figure4_trace :
       lines figure4 (fresh_state figure4) words ≡
       (t 10 ∷ t 100 ∷ t 0 ∷ t 0 ∷ []) ∷
@@ -112,7 +112,7 @@ unfolding all_below any_below pick_below signed padded table
 traced = record { figure4_trace = refl; figure4-fired = refl; stationed_trace = refl; stationed-fired = refl }
 
 -- ---- number 21
--- figure 4's state of so many cycles, with these firings, pending marks, stations and queues, and nothing past a list's end
+-- figure 4's state of so many cycles, with these firings, pending bytes, stations and queues, and nothing past a list's end
 abbrev state : ℕ → List ℕ → List ℕ → List Station → List Queue → State
 state cycles firings pending stations queues =
     record {
@@ -123,10 +123,11 @@ state cycles firings pending stations queues =
       queues = padded 96 (queue_of []) queues;
     }
 
--- a mark on each of the four channels; the state where no node has fired
+-- figure 4's pending bytes where a token is pending on each of its four channels
 abbrev all_pending : List ℕ
 all_pending = replicate 4 1
 
+-- figure 4's fresh state with another cycle count
 abbrev at : ℕ → State
 at cycles = state cycles [] all_pending [] []
 
@@ -134,13 +135,14 @@ fresh-state : fresh_state figure4 ≡ at 0
 unfolding signed padded table nodes channels parameter depths stations station_of queue_of state_of fresh_state
 fresh-state = refl
 
--- the judge's number beside zeros
+-- a refused call for a fresh state answers the judge's number beside zeros
 fresh_refused : fresh_answer (set figure4 2 0) ≡ record { number = 4; state = zeros }
 unfolding judge nodes channels kind wire from to port depths stations depth inputs feeds
     bad_kind bad_wire bad_port fed_twice not_fed bad_stations bad_depth any_below sum_below fresh_answer
 fresh_refused = refl
 
--- it fits up to the last cycle count. What does not depend on the count is computed for all counts at once, because to look at all places takes long
+-- the fresh state fits with every cycle count up to the last. What does not depend on the count is computed for all counts at once, because to look
+-- at all places takes long
 at_firings : (cycles : ℕ) → firings_fit figure4 (at cycles) ≡ true
 unfolding all_below table nodes node_at firings_fit
 at_firings cycles = rw (leb-zero cycles) refl
@@ -156,28 +158,28 @@ at-fits : (cycles : ℕ) → leb cycles 1000000 ≡ true → fits figure4 (at cy
 unfolding cycles_fit fits
 at-fits cycles e = rw (e, at_firings cycles) (at_others cycles)
 
--- each of these misses one of the six conditions
+-- states of which each misses one of the six conditions
 abbrev misfits : List State
 misfits =
     -- cycle count 1,000,001
     at 1000001
     -- each node has fired in no cycle
     ∷ state 0 (replicate 5 1) all_pending [] []
-    -- a mark of 2 for two tokens
+    -- a pending byte of 2 for two tokens
     ∷ state 1 (1 ∷ []) (2 ∷ 1 ∷ 1 ∷ 1 ∷ []) [] []
     -- three tokens in a queue of depth 2
     ∷ state 3 (3 ∷ []) all_pending [] (queue_of (pos 10 ∷ pos 11 ∷ pos 12 ∷ []) ∷ [])
-    -- a token that an empty queue does not hold; node 5 has fired; a mark on channel 4; a token in a station that channel 0 does not have
+    -- a token that an empty queue does not hold; node 5 has fired; a pending token on channel 4; a token in a station that channel 0 does not have
     ∷ state 0 [] all_pending [] (record { tokens = pos 7 ∷ replicate 7 (pos 0); count = 0 } ∷ [])
     ∷ state 1 (0 ∷ 0 ∷ 0 ∷ 0 ∷ 0 ∷ 1 ∷ []) all_pending [] []
     ∷ state 0 [] (replicate 5 1) [] []
     ∷ state 0 [] all_pending (station_of (pos 7 ∷ []) ∷ []) []
-    -- no token on channel 0; and none where its to node has taken one that never was, so that 0 + 1 - 2 would have to be 0
+    -- no token on channel 0, fresh and where its to node has taken one that never was, so that 0 + 1 - 2 would have to be 0
     ∷ state 0 [] (0 ∷ 1 ∷ 1 ∷ 1 ∷ []) [] []
     ∷ state 2 (0 ∷ 0 ∷ 2 ∷ 2 ∷ 2 ∷ []) (0 ∷ 0 ∷ 1 ∷ 1 ∷ []) [] []
     ∷ []
 
--- the conditions without the fifth, "every place that no .. uses is 0"
+-- the conditions of a state that fits, without the fifth, "every place that no .. uses is 0"
 abbrev conditions : State → List Bool
 conditions st =
     cycles_fit figure4 st ∷ firings_fit figure4 st ∷ pending_fit figure4 st ∷ counts_fit figure4 st ∷ all_below (balanced figure4 st) (channels figure4) ∷ []
@@ -210,7 +212,7 @@ unfolding judge nodes channels kind wire from to port depths stations depth inpu
     bad_kind bad_wire bad_port fed_twice not_fed bad_stations bad_depth any_below sum_below
 accepted = refl
 
--- a step's number and a run where image and state are sound
+-- a step's number where image and state are sound
 step-sound :
     (cycles word letters values : ℕ) → leb cycles 1000000 ≡ true
     → step_number figure4 (at cycles) word letters values ≡
@@ -218,11 +220,12 @@ step-sound :
 unfolding nodes channels step_number
 step-sound cycles word letters values e = rw (accepted, at-fits cycles e) refl
 
+-- what a run returns where image and state are sound
 run_sound : (cycles : ℕ) (words : List ℕ) → leb cycles 1000000 ≡ true → run_answer figure4 (at cycles) words ≡ ran_from figure4 (at cycles) words
 unfolding run_answer
 run_sound cycles words e = rw (accepted, at-fits cycles e) refl
 
--- lent arrays of six places
+-- a lent array of six letters, each 7
 abbrev letters : List ℕ
 letters = replicate 6 7
 
@@ -255,10 +258,10 @@ record Answered : Type 0 where
   run_22 : run_answer figure4 (at 999998) (1 ∷ 0 ∷ 32 ∷ []) ≡ record { steps = 2; number = 22; state = after figure4 (at 999998) (1 ∷ 0 ∷ []) }
   run_0 : run_answer figure4 (at 999998) (1 ∷ 0 ∷ []) ≡ record { steps = 2; number = 0; state = after figure4 (at 999998) (1 ∷ 0 ∷ []) }
   run-cycles : ((after figure4 (at 0) (1 ∷ 0 ∷ [])).cycles ≡ 2) × ((after figure4 (at 999998) (1 ∷ 0 ∷ [])).cycles ≡ 1000000)
-  -- at the limit it takes no word, and without a word nothing is wrong
+  -- with cycle count 1,000,000 a run takes no word, and without a word nothing is wrong
   run_last : run_answer figure4 (at 1000000) (32 ∷ []) ≡ record { steps = 0; number = 22; state = at 1000000 }
   run_none : run_answer figure4 (at 1000000) [] ≡ record { steps = 0; number = 0; state = at 1000000 }
-  -- image and state come first, also without a word
+  -- a run looks at image and state first, also without a word
   run_21 : run_answer figure4 (at 1000001) [] ≡ record { steps = 0; number = 21; state = at 1000001 }
   run_image : run_answer (set figure4 2 0) (at 1000001) [] ≡ record { steps = 0; number = 4; state = at 1000001 }
 

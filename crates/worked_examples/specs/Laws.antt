@@ -1,4 +1,4 @@
--- The definitions here, computed at small numbers and at the ends of the signed range.
+-- The definitions of crate `laws`, computed at small numbers and at the ends of the signed range.
 use Rattle.std.specs.Prelude.{true, false, List, [], ◌∷◌, ◌≡◌, refl, ℕ, ◌+◌, ◌-◌, ◌^◌, ltb, eqb, pos, negsuc}
 use Rattle.laws.specs.Below.{all_below, any_below, sum_below, most_below, pick_below}
 use Rattle.laws.specs.Choice.{◌if◌else◌}
@@ -42,7 +42,7 @@ tokens :
 unfolding padded
 tokens = (refl, refl, refl, refl, refl, refl, refl, refl, refl, refl)
 
--- 0, the largest, the least and -1
+-- the signed numbers 0, the largest, the least and -1 by their bits
 ends : (signed 0 ≡ pos 0) × (signed (2 ^ 31 - 1) ≡ pos 2147483647) × (signed (2 ^ 31) ≡ negsuc 2147483647) × (signed (2 ^ 32 - 1) ≡ negsuc 0)
 unfolding signed
 ends = (refl, refl, refl, refl)

@@ -1,4 +1,4 @@
--- The definitions, computed: figure 4's image is accepted, and so is a ring with stations; each number has an image.
+-- Images, computed: figure 4's is accepted, and so is a ring with stations; each number has an image.
 use Rattle.std.specs.Prelude.{List, [], ◌∷◌, ◌++◌, ◌≡◌, refl, ℕ, zero, suc, ◌+◌, ◌*◌, pos, negsuc, set, take, replicate}
 use Rattle.laws.specs.Below.{any_below, sum_below}
 use Rattle.laws.specs.Signed.{signed}
@@ -6,7 +6,7 @@ use Rattle.image.specs.Image.{feeds, nodes, channels, kind, parameter, wire, fro
 use Rattle.image.specs.Loops.Ports.{ports_below}
 use Rattle.verdict.specs.Judge.{judge, bad_kind, bad_wire, bad_port, fed_twice, not_fed, bad_stations, bad_depth}
 
--- kinds 1 1 6 2 2; parameters 10 100 0 0 0; wires 0-2-0, 1-2-1, 2-3-0, 2-4-0; depths 0/2, 0/2, 0/1, 0/1
+-- figure 4: kinds 1 1 6 2 2; parameters 10 100 0 0 0; wires 0-2-0, 1-2-1, 2-3-0, 2-4-0; depths 0/2, 0/2, 0/1, 0/1
 abbrev pub figure4 : List ℕ
 figure4 =
     (5 ∷ 4 ∷ []) ++
@@ -24,7 +24,7 @@ abbrev spokes : ℕ → List ℕ
 spokes zero = []
 spokes (suc m) = spokes m ++ (0 ∷ suc m ∷ 0 ∷ [])
 
--- m depths a/1, .., a/1 and last b/1
+-- the depths of m channels: a/1, .., a/1 and last b/1
 abbrev rows : ℕ → ℕ → ℕ → List ℕ
 rows a b zero = []
 rows a b (suc zero) = b ∷ 1 ∷ []
@@ -34,16 +34,17 @@ rows a b (suc (suc m)) = a ∷ 1 ∷ rows a b (suc m)
 abbrev star : ℕ → ℕ → List ℕ
 star m r = (suc m ∷ m ∷ []) ++ (1 ∷ replicate m 2) ++ replicate (4 * suc m) 0 ++ spokes m ++ rows 8 r m
 
--- wires 0-0-0, 0-0-1, 0-1-0, 0-1-1, ..: both ports of m sum nodes; and wires 0-k-0, 0-(k + 1)-0, ..: the port of m hold nodes from node k on
+-- the wires 0-0-0, 0-0-1, 0-1-0, 0-1-1, .., to both ports of m sum nodes
 abbrev pairs : ℕ → List ℕ
 pairs zero = []
 pairs (suc m) = pairs m ++ (0 ∷ m ∷ 0 ∷ 0 ∷ m ∷ 1 ∷ [])
 
+-- the wires 0-k-0, 0-(k + 1)-0, .., to the port of m hold nodes from node k on
 abbrev singles : ℕ → ℕ → List ℕ
 singles k zero = []
 singles k (suc m) = 0 ∷ k ∷ 0 ∷ singles (suc k) m
 
--- 32 sum nodes and k hold nodes, 32 + k nodes and 64 + k channels, all fed by node 0
+-- 32 sum nodes and k hold nodes, all fed by node 0: 32 + k nodes and 64 + k channels
 abbrev fan : ℕ → List ℕ
 fan k = ((32 + k) ∷ (64 + k) ∷ []) ++ replicate 32 6 ++ replicate k 2 ++ replicate (4 * (32 + k)) 0 ++ pairs 32 ++ singles 32 k ++ rows 0 0 (64 + k)
 

@@ -16,7 +16,7 @@ ports :
 unfolding pick_below nodes channels wire to port feeds port_value
 ports = (refl, refl, refl, refl, refl)
 
--- so the sum is 21, a count node counts on from 5, and the ring's negate node, fed by channel 0, turns 10 into -10
+-- with 10 and 11 on its ports figure 4's sum node makes 21, a count node counts on from 5, and the ring's negate node turns 10 into -10
 nexts :
     (next_of figure4 (λ c. pos (10 + c)) 2 (pos 5) ≡ pos 21) × (next_of figure4 (λ c. pos (10 + c)) 0 (pos 5) ≡ pos 6) ×
     (next_of ring (λ c. pos (10 + c)) 1 (pos 5) ≡ negsuc 9)

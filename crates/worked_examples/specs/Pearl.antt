@@ -1,4 +1,4 @@
--- The definitions here, computed: the whole table, what wraps, and numbers that are no kind. The starred edges are in `starred`.
+-- Next values, computed: the whole table, what wraps, and numbers that are no kind. The starred edges are in `starred`.
 use Rattle.std.specs.Prelude.{[], ◌∷◌, Ok, Err, ◌≡◌, refl, pos, negsuc}
 use Rattle.laws.specs.Signed.{signed}
 use Rattle.laws.specs.Table.{table}

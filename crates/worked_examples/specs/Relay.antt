@@ -1,4 +1,4 @@
--- The definitions here, computed: a table of readings, a station through eleven cycles, a row of two stations, and records.
+-- Stations, computed: a table of readings, a station through eleven cycles, a row of two stations, and records.
 use Prim.Native.Char.{code}
 use Rattle.std.specs.Prelude.{Some, Bool, true, false, List, [], ◌∷◌, ◌++◌, ◌≡◌, refl, ℕ, pred, eqb, ltb, ℤ, pos, negsuc, replicate}
 use Rattle.std.specs.Bool.{then_some}
@@ -27,7 +27,7 @@ i = record { letter = code "I"; value = pos 0 }
 abbrev pub s : Reading
 s = record { letter = code "S"; value = pos 0 }
 
--- a list of bits
+-- a list of bits, each 0 or 1
 abbrev bits : List ℕ → List Bool
 bits [] = []
 bits (x ∷ xs) = eqb x 1 ∷ bits xs
@@ -44,17 +44,18 @@ table1 :
 unfolding reading letter
 table1 = refl
 
--- ---- a row through many cycles. For each: the token that enters (0 stands for a void link), and the stop below
+-- ---- a row through many cycles
+-- what enters a row in a cycle: a token, of which 0 stands for none
 abbrev on : ℕ → List ℤ
 on x = one_if (ltb 0 x) (pos x)
 
--- what the leaving link reads, cycle by cycle
+-- what a row's leaving link reads, cycle by cycle, given what enters and the stops below
 abbrev leaves : List (List ℤ) → List ℕ → List Bool → List Reading
 leaves row [] stops = []
 leaves row (x ∷ xs) [] = []
 leaves row (x ∷ xs) (stop ∷ stops) = reading (link_of (leaving (on x) row)) stop ∷ leaves (row_after (on x) row stop) xs stops
 
--- whether the entering link is stopped, cycle by cycle
+-- whether a row's entering link is stopped, cycle by cycle
 abbrev stops_above : List (List ℤ) → List ℕ → List Bool → List Bool
 stops_above row [] stops = []
 stops_above row (x ∷ xs) [] = []
@@ -95,7 +96,7 @@ clears :
 unfolding zero_from all_below
 clears = (refl, refl, refl, refl)
 
--- eight stations with a token each. A row of none of them is its link; the cycle of one leaves the others; a length over eight is eight
+-- a row of eight stations with a token each. A row of none of them is its link; the cycle of one leaves the others; a length over eight is eight
 abbrev eight : Row
 eight = record { stations = replicate 8 (station_of (pos 1 ∷ [])) }
 

@@ -1,5 +1,4 @@
--- The definitions here, computed: the second channel of figure 4, a channel with two stations that fills up and runs empty, and
--- a queue's record.
+-- Channels, computed: the second channel of figure 4, a channel with two stations that fills up and runs empty, and a queue's record.
 use Prim.Native.Char.{code}
 use Rattle.std.specs.Prelude.{is_some, true, false, not, ◌&&◌, List, [], ◌∷◌, ◌++◌, map, ◌≡◌, refl, ℕ, zero, suc, eqb, ℤ, pos, drop}
 use Rattle.laws.specs.Choice.{◌if◌else◌}
@@ -11,7 +10,7 @@ use Rattle.relay.specs.Row.{stopped, leaving, row_after}
 use Rattle.shell.specs.Queue.{queue_of, full, pushed, popped, queue_after}
 use Rattle.shell.specs.Channel.{Channel, blocked, arriving, input, stop_below, stop_above, channel_reading, channel_after}
 
--- the letters T and R with their value, and I
+-- the readings T and R with their value, and I
 abbrev t : ℕ → Reading
 t x = record { letter = code "T"; value = pos x }
 
@@ -50,7 +49,8 @@ two_stations :
 unfolding letter reading stopped leaving row_after place_after full blocked arriving input stop_below stop_above channel_reading channel_after
 two_stations = refl
 
--- ---- the record: a queue of eight that is full, has no place for a ninth, and hands on its first; a depth of 1 is full with one token
+-- ---- the record
+-- a queue of eight that is full has no place for a ninth, and hands on its first; a depth of 1 is full with one token
 abbrev up_to : ℕ → List ℤ
 up_to zero = []
 up_to (suc n) = up_to n ++ (pos (suc n) ∷ [])

@@ -62,7 +62,7 @@ abbrev wraps : List ℕ
 wraps =
     (2 ∷ 2 ∷ []) ++ (3 ∷ 4 ∷ []) ++ (255 ∷ 255 ∷ 255 ∷ 127 ∷ 1 ∷ 0 ∷ 0 ∷ 0 ∷ []) ++ (0 ∷ 1 ∷ 0 ∷ 1 ∷ 0 ∷ 0 ∷ []) ++ (0 ∷ 1 ∷ 2 ∷ 3 ∷ [])
 
--- its sums wrap upwards and downwards, negate meets the least value, and after six cycles it has come round
+-- the sums of this ring wrap upwards and downwards, negate meets the least value, and after six cycles it has come round
 wraps-cycles :
     table (strict_cycle wraps) 7 ≡
     (pos 2147483647 ∷ pos 1 ∷ []) ∷
@@ -83,7 +83,7 @@ pub record Numbered : Type 0 where
   pub at_14_and_13 : strict_number figure4 1000001 4 ≡ 14
   pub at_4_and_14_and_13 : strict_number (set figure4 2 0) 1000001 4 ≡ 4
   pub at_3 : strict_number (take 46 figure4) 10 5 ≡ 3
-  -- four places: two are written. One place, and a cycle too late: none is
+  -- two of four places are written; of one place none is, and none is for a cycle too late
   pub four-places : strict_written ring 1 (pos 1 ∷ pos 2 ∷ pos 3 ∷ pos 4 ∷ []) ≡ negsuc 1 ∷ negsuc 6 ∷ pos 3 ∷ pos 4 ∷ []
   pub one_place : strict_written ring 1 (pos 1 ∷ []) ≡ pos 1 ∷ []
   pub late : strict_written ring 1000001 (pos 1 ∷ pos 2 ∷ pos 3 ∷ []) ≡ pos 1 ∷ pos 2 ∷ pos 3 ∷ []

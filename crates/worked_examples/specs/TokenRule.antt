@@ -23,8 +23,8 @@ use Rattle.token_rule.specs.Cycles.{fired_in, arrivals}
 use Rattle.token_rule.specs.Calls.{Call, step, run, returned, Done, Chain, goes, roomy, makes, run_cycles, cycles_in, cycles_of}
 use Rattle.token_rule.specs.Progress.{most_stations, Awake}
 
--- ---- the cycles of a list. They follow from what the calls are given, so the answers are left blank here: a step with its word and the lengths of
--- its arrays, and a run
+-- ---- the cycles of a list
+-- a step with its word and the lengths of its arrays. Cycles follow from what the calls are given, so the answers are left blank here
 abbrev asked : ℕ → ℕ → ℕ → Call
 asked w letters values =
     step
@@ -49,7 +49,8 @@ made :
 unfolding nodes channels sets_above goes roomy makes run_cycles cycles_in cycles_of
 made = (refl, refl)
 
--- ---- every list of calls can be answered so that it is a chain: what a call is given, and the call that the definitions make of it
+-- ---- every list of calls can be answered so that it is a chain
+-- what a call is given
 data Given : Type 0 where
   a_step : ℕ → List ℕ → List ℤ → Given
   a_run : List ℕ → Given
@@ -99,7 +100,7 @@ largest : (most_stations figure4 ≡ 0) × (most_stations ring ≡ 8) × (most_s
 unfolding nodes channels depths stations most_below most_stations
 largest = (refl, refl, refl)
 
--- words 1, 4 and 5 do not stall node 1; word 2 does
+-- the words 1, 4 and 5 do not stall node 1; word 2 does
 free : Awake 1 (1 ∷ 4 ∷ 5 ∷ []) × (stalled 2 1 ≡ true)
 unfolding stalled Awake
 free = ((refl, (refl, (refl, tt))), refl)

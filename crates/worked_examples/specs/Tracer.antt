@@ -1,5 +1,5 @@
--- The definitions, computed: the whole output for figure 4, for a netlist with stations on every channel, and for small netlists; the numbers of an
--- input, in their order; the calls for a line.
+-- The trace program's output, computed: for figure 4, for a netlist with stations on every channel, and for small netlists; the numbers of an input,
+-- in their order; the calls for a line.
 use mathlib.Core.List.{List, [], ◌∷◌, ◌++◌, flat_map}
 use Rattle.std.specs.Prelude.{◌≡◌, refl, ℕ, ◌+◌, ◌*◌, length, set, take, replicate}
 use Prim.Native.String.{String}
@@ -24,8 +24,7 @@ use Rattle.state.specs.Fresh.{fresh_state, zeros}
 use Rattle.fitting.specs.Fits.{cycles_fit, firings_fit, pending_fit, stations_fit, counts_fit, node_clear, pending_clear, station_clear, queue_clear}
 use Rattle.fitting.specs.Fits.{unused_clear, balanced, fits}
 use Rattle.cycle.specs.Cycle.{stalled, input_at, blocked_at, reading_at, all_ready, any_blocked, fires, node_after, channel_after_at, state_after, after}
-use Rattle.engine.specs.Answer.{sets_above, step_number}
-use Rattle.engine.specs.Loops.Taken.{state_number}
+use Rattle.engine.specs.Answer.{sets_above, step_number, state_number}
 use Rattle.worked_examples.specs.Engine.{words, stationed, stalls}
 use Rattle.text.specs.Ascii.{ascii}
 use Rattle.text.specs.Decimal.{places, decimal, signed_text}
@@ -36,18 +35,19 @@ use Rattle.trace_input.specs.Input.{image_due, image_of, word_at, word_count, wo
 use Rattle.tracer.specs.Trace.{readings_from, cycle_text, firings_of, trace_of, printed}
 use Rattle.tracer.specs.Done.{line_answer, line_over, closing_answer, closing_over}
 
--- a word below 256 as its bytes, and one whose bit 63 alone is set
+-- a word below 256 as its bytes
 abbrev word : ℕ → List ℕ
 word low = low ∷ 0 ∷ 0 ∷ 0 ∷ 0 ∷ 0 ∷ 0 ∷ 0 ∷ []
 
+-- the word whose bit 63 alone is set, as its bytes
 abbrev bit63 : List ℕ
 bit63 = 0 ∷ 0 ∷ 0 ∷ 0 ∷ 0 ∷ 0 ∷ 0 ∷ 128 ∷ []
 
--- an image with such words
+-- an image with words below 256 behind it
 abbrev with : List ℕ → List ℕ → List ℕ
 with img lows = img ++ flat_map word lows
 
--- "Every line, the last too, ends with one line feed (byte 10)."
+-- a text of lines: "Every line, the last too, ends with one line feed (byte 10)."
 abbrev text : List String → List ℕ
 text [] = []
 text (line ∷ lines) = ascii line ++ (10 ∷ text lines)
@@ -63,7 +63,7 @@ ends =
     ++ (0 ∷ 2 ∷ 0 ∷ 1 ∷ 3 ∷ 0 ∷ []) ++ (0 ∷ 1 ∷ 0 ∷ 1 ∷ [])
 
 record Printed : Type 0 where
-  -- "The whole output"
+  -- figure 4's trace, "The whole output"
   of_figure4 :
       printed (with figure4 words) ≡
       text
@@ -108,7 +108,7 @@ record Printed : Type 0 where
   no_words : printed figure4 ≡ text ("cycle states" ∷ "fired 0 0 0 0 0" ∷ [])
   -- without a channel a line is the cycle's number alone
   no_channels : printed (with (counts 1) (0 ∷ 1 ∷ 0 ∷ [])) ≡ text ("cycle states" ∷ "0" ∷ "1" ∷ "2" ∷ "fired 2" ∷ [])
-  -- the ends of the range, and a value that wraps
+  -- values at the ends of the range, and one that wraps
   at_the_ends :
       printed (with ends (0 ∷ 0 ∷ [])) ≡
       text ("cycle states" ∷ "0 T-2147483648 T2147483647" ∷ "1 T-2147483647 T-2147483648" ∷ "fired 2 2 2 2" ∷ [])
@@ -141,17 +141,19 @@ low_first : words_of (figure4 ++ (1 ∷ 2 ∷ 3 ∷ 4 ∷ 5 ∷ 6 ∷ 7 ∷ 8 �
 unfolding table nodes channels image_due word_at word_count words_of
 low_first = refl
 
--- an input's own number; and that of an input which begins with these bytes and has so many more
+-- an input's own number
 abbrev number : List ℕ → ℕ
 number input = input_number input (length input)
 
+-- the number of an input that begins with these bytes and has so many more
 abbrev and_more : List ℕ → ℕ → ℕ
 and_more head more = input_number head (length head + more)
 
--- 4,096 words, and figure 4 with a kind 0
+-- how many bytes 4,096 words have
 abbrev most : ℕ
 most = 8 * 4096
 
+-- figure 4 with a kind 0
 abbrev bad_kind_image : List ℕ
 bad_kind_image = set figure4 2 0
 
@@ -163,19 +165,19 @@ record Numbered : Type 0 where
   at_3_short : number (take 46 figure4) ≡ 3
   at_3_byte : number (figure4 ++ (0 ∷ [])) ≡ 3
   at_3_bytes : number (with figure4 (0 ∷ []) ++ replicate 7 0) ≡ 3
-  -- of two causes the first: 2 before a ragged tail, that before 4, 4 before 14
+  -- of two causes the first answers: 2 before a ragged tail, a ragged tail before 4, 4 before 14
   sizes_first : number (set figure4 0 0 ++ (0 ∷ [])) ≡ 2
   then_tail : number (bad_kind_image ++ (0 ∷ [])) ≡ 3
   then_kind : and_more bad_kind_image (most + 8) ≡ 4
   at_14 : and_more figure4 (most + 8) ≡ 14
   at_14_not : and_more figure4 most ≡ 0
   tail_before_14 : and_more figure4 (most + 9) ≡ 3
-  -- bit 5 of a netlist of 5 nodes; a word of 4,097 that sets it
+  -- a word that sets bit 5, with 5 nodes; such a word among 4,097
   at_12 : number (with figure4 (31 ∷ 32 ∷ [])) ≡ 12
   at_12_first : number (with figure4 (32 ∷ [])) ≡ 12
   at_12_not : number (with figure4 (31 ∷ 31 ∷ [])) ≡ 0
   then_14 : and_more (with figure4 (32 ∷ [])) most ≡ 14
-  -- bit 63
+  -- a word that sets bit 63, with 63 nodes and with 64
   at_12_high : number (counts 63 ++ bit63) ≡ 12
   at_12_high_not : number (counts 64 ++ bit63) ≡ 0
 

@@ -1,4 +1,4 @@
--- What a writer leaves in the slice that it is lent. A file NAME defines, and NAMELaws proves what others use instead of the definition's text.
+-- Defines what a writer answers, and what it leaves in the slice that it is lent.
+pub mod Put
 pub mod Write
 pub mod Laws
-pub mod Loops

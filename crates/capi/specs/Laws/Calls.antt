@@ -14,10 +14,9 @@ use Rattle.fitting.specs.Fits.{fits, cycles_fit}
 use Rattle.state.specs.Fresh.{fresh_answer, FreshDone}
 use Rattle.cycle.specs.Cycle.{state_after}
 use Rattle.state.specs.Told.{Told}
-use Rattle.engine.specs.Answer.{step_number, number_of_step, step_answer, RunTold}
+use Rattle.engine.specs.Answer.{step_number, number_of_step, step_answer, RunTold, state_number}
 use Rattle.engine.specs.Laws.Answer.{number_ok, state_ok, run_none}
 use Rattle.engine.specs.Done.{StepDone, RunDone}
-use Rattle.engine.specs.Loops.Taken.{state_number}
 use Rattle.refusal.specs.Number.{number_of}
 use Rattle.refusal.specs.declared.Refusal.{Refusal}
 use Rattle.writer.specs.Write.{written_answer, written_over, WriteDone, WriteTold, write_told}
@@ -34,7 +33,7 @@ module _ (img bytes : List ℕ) where
   unfolding state_in no_state fits cycles_fit
   other_length n = rw (ne_eqb (length bytes) state_length n)
 
-  -- a state that fits was read from bytes of that length
+  -- a state that fits was read from bytes of a state's length
   pub sized : state_number img (state_in bytes) ≡ 0 → length bytes ≡ state_length
   sized e = at (ℕ_discrete (length bytes) state_length)
     where
@@ -47,7 +46,7 @@ pub state-stored :
     (bytes : List ℕ) {left : List ℕ} (s : State) → length bytes ≡ state_length → left ≡ state_bytes s ++ drop state_length bytes → left ≡ state_bytes s
 state-stored bytes s e q = all_stored bytes (state_bytes s) state_length (omega (arith, e)) q
 
--- there is room for it
+-- where the bytes of a state are lent there is room for a state
 stored :
     (s : State) {bytes left : List ℕ} {written : Result ℕ Refusal} → WriteDone (state_bytes s) bytes written left → length bytes ≡ state_length
     → (number_of written ≡ 0) × (left ≡ state_bytes s)
@@ -78,7 +77,7 @@ module _ (old : List ℕ) {img : List ℕ} {answer : Told} (d : FreshDone img an
         (λ (q : ltb (length old) state_length ≡ false). rw q)
         (true_or_false (ltb (length old) state_length)))
 
-    -- 13 only where the judge refuses nothing
+    -- a call for a fresh state answers 13 only where the judge refuses nothing
     pub fresh_made : answer.number ≡ 0 → FreshCall img old (number_of written) left
     unfolding fresh_number
     fresh_made z =
@@ -164,7 +163,7 @@ module _
       (λ (q : eqb number 0 ≡ false). absurd (eqb-false number 0 q (rw q at (sym line_number ∙ z))))
       (true_or_false (eqb number 0))
 
-  -- where the line was written the state is the one after the cycle
+  -- where the line was written the returned state is the one after the cycle
   line_after : answer.number ≡ 0 → answer.state ≡ state_after img word (state_in bytes)
   line_after z =
       (line_made (record {

@@ -30,7 +30,7 @@ use Rattle.writer.specs.Write.{WriteDone}
 use Rattle.writer.specs.Laws.Write.{write_done}
 use Rattle.capi.specs.Calls.{BenchCall}
 
--- a bench answers its number
+-- a bench's answer tells the bench's number
 answer-number : (row : List Station) (link : Link) (stop : Bool) → (bench_answer row link stop).number ≡ bench_number row
 unfolding bench_answer reply refusal
 answer-number row link stop =
@@ -39,12 +39,12 @@ answer-number row link stop =
     (λ (q : eqb (bench_number row) 0 ≡ false). rw q)
     (true_or_false (eqb (bench_number row) 0))
 
--- what is no record fits no bench
+-- the record that bytes which are none are read as fits no bench
 no_record-fits : fits no_record ≡ false
 unfolding fits no_record
 no_record-fits = refl
 
--- a bench that is not refused, and one that is
+-- a bench that is not refused tells number 0
 pub ok_number : (answer : Result Answer Refusal) → is_ok answer ≡ true → (told answer).number ≡ 0
 ok_number (Ok a) e = refl
 ok_number (Err r) e = absurd (true≢false (sym e))
@@ -54,14 +54,14 @@ err-number answer e z =
     let q : eqb 0 0 ≡ false = rw z at (refused_number answer e) in
     absurd (true≢false q)
 
--- what C is told of a call
+-- what C is told of a call for a bench
 pub told_call :
     (row : List Station) (bytes : List ℕ) (valid : Bool) (value : ℤ) (stop : Bool) (left : List ℕ) {t u : Told} → u ≡ t
     → BenchCall row bytes valid value stop t.number t.letter t.value t.taken left
     → BenchCall row bytes valid value stop u.number u.letter u.value u.taken left
 told_call row bytes valid value stop left e call = rw e call
 
--- records over the bytes of as many are all of them
+-- records stored over the bytes of as many are all of these bytes
 records-left :
     (records : List Station) {bytes left : List ℕ} {written : Result ℕ Refusal} → WriteDone (flat_map station_bytes records) bytes written left
     → length bytes ≡ 9 * length records → left ≡ flat_map station_bytes records
@@ -119,7 +119,7 @@ module _ (bytes : List ℕ) where
         let q = rw length-row at (accepted_long (row_in bytes) accepted) in
         (eqb-false count 0 (or_left (eqb count 0) (ltb 8 count) q), ltb-false 8 count (or_right (eqb count 0) (ltb 8 count) q))
 
-    -- each of them whole
+    -- each record of a row that is accepted is whole
     record_whole : (i : ℕ) → i < record_count bytes → 9 * i + 9 ≤ length bytes
     unfolding row_in row_record
     record_whole i h =
@@ -131,7 +131,7 @@ module _ (bytes : List ℕ) where
         (λ (q : leb (9 * i + 9) (length bytes) ≡ false). absurd (true≢false (sym (rw q at g) ∙ no_record-fits)))
         (true_or_false (leb (9 * i + 9) (length bytes)))
 
-    -- and they are all of its bytes
+    -- the records of a row that is accepted are all of its bytes
     row-whole : length bytes ≡ 9 * record_count bytes
     unfolding record_count
     row-whole = omega (arith, record_whole (record_count bytes - 1) (omega (arith, row_few.0)), row_few.0)

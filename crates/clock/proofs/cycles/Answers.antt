@@ -1,5 +1,5 @@
--- `clock::cycles` meets its contract. The invariants: the cycles of the first t words are made (loop), the channels below c are scanned
--- (loop2), the nodes below n are gated (loop3), the channels below c have moved (loop4), and of channel c's stations those below j (loop5).
+-- `clock::cycles` meets its contract. The invariants: the cycles of the first t words are made (loop-word), the channels below c are scanned
+-- (loop-c), the nodes below n are gated (loop-n), the channels below c have moved (loop-c-2), and of channel c's stations those below j (loop-j).
 -- Assumes nothing.
 use mathlib.Core.Bool.{Bool, true, false}
 use mathlib.Core.List.{List}
@@ -44,7 +44,7 @@ use Rattle.cycle.specs.Loops.Parts.{no_wire, wires_below}
 use Rattle.clock.proofs.cycles.Goals.{In-loop-c, In-loop-c-2, then-length-gt0, else-length-gt0, then-stalls-starved, else-stalls-starved, then-j-length, else-j-length, then-length-gt0-2, else-length-gt0-2, then-takes-is_some, else-takes-is_some}
 use Rattle.clock.proofs.cycles.Goals as goal
 
--- what is read of channel i, which is one of the image's: its number and its fields are indices
+-- wire i is that of one of the image's channels: its number and its fields are indices
 abbrev read_at : List Wire → ℕ → Wire
 read_at wires i = get_or wires i no_wire
 
@@ -66,7 +66,7 @@ move_within c =
     within c.args.netlist.image.now (accepted c.args.netlist.image.now c.args.netlist.accepted) c.wires_of-wires.result c.wires_of-wires.ensures c.loop-c-2.c
     (omega (arith, c.channels-channels.ensures.value))
 
--- a pending mark
+-- a pending bit as its byte
 byte : (b : Bool) → from_bool b ≡ (1 if b else 0)
 byte true = refl
 byte false = refl

@@ -1,3 +1,4 @@
+-- `clock::cycles`: the words made, the channels scanned, the nodes gated, the channels moved, and of the channel that moves the stations moved.
 use mathlib.Core.Path.{◌≡◌}
 use Prim.Native.Nat.{ℕ, ◌≤◌, ◌+◌, ◌*◌}
 use mathlib.Core.List.{List}
@@ -10,7 +11,7 @@ use Rattle.cycle.specs.Loops.Parts.{starved_below, brought_below, blocked_below,
 use Rattle.cycle.specs.Loops.PartsLaws.{link_in}
 use Rattle.clock.proofs.cycles.Given as goal
 
--- the cycles of the first t words are made
+-- the cycles of the first t words are made, and the state fits
 pub record Made (img : List ℕ) (words : List ℕ) (first : State) (s : State) (t : ℕ) : Type 0 where
   pub done : t ≤ length words
   pub state : s ≡ after img first (take t words)

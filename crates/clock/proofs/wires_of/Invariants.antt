@@ -1,3 +1,4 @@
+-- `clock::wires_of`: the wires of the channels below c are read.
 use mathlib.Core.Path.{◌≡◌}
 use Rattle.cycle.specs.Loops.Parts.{wires_below}
 use Rattle.clock.proofs.wires_of.Given as goal

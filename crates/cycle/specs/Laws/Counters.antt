@@ -1,6 +1,6 @@
 -- The counting view of a state: how many tokens have entered each place of a channel since the fresh state. Place 0 is the from node, places 1 to r
--- are the stations, place r + 1 is the queue. One cycle is a least of three on these numbers (`CountersLaws`), so what is said of time looks at no
--- station again.
+-- are the stations, place r + 1 is the queue. What one cycle makes of these numbers is the least of three (`Laws/Counting`), so what is said of time
+-- looks at no station again.
 use Rattle.std.specs.Prelude.{false, List, ◌≡◌, ℕ, zero, suc, ◌+◌, ◌<◌, ltb, length, drop}
 use Rattle.laws.specs.Choice.{◌if◌else◌}
 use Rattle.image.specs.Image.{channels, from, to, stations, depth}
@@ -10,13 +10,13 @@ use Rattle.state.specs.State.{firings_at, channel_in}
 use Rattle.cycle.specs.Cycle.{stalled}
 
 module _ (img : List ℕ) (s : State) where
-  -- the tokens that have entered place j of channel c. Those of place 0 were made: the parameter, and one at each firing of the from node. Those of a
-  -- place below it were taken, wait in the queue, or are in this station or a later one
+  -- how many tokens have entered place j of channel c. Place 0: those that were made, the parameter and one at each firing of the from node. A place
+  -- below it: those that were taken, wait in the queue, or are in this station or a later one
   unfoldable pub entered : ℕ → ℕ → ℕ
   entered c zero = suc (firings_at s (from img c))
   entered c (suc j) = firings_at s (to img c) + length (channel_in img s c).queue + length (contents (drop j (channel_in img s c).row))
 
-  -- as many as can have entered place j + 1: two more than have left the station, or the depth more than were taken from the queue
+  -- how many tokens can have entered place j + 1 of channel c: two more than have left the station, or the depth more than were taken from the queue
   unfoldable pub limit : ℕ → ℕ → ℕ
   limit c j = entered c (suc (suc j)) + 2 if ltb j (stations img c) else firings_at s (to img c) + depth img c
 

@@ -30,7 +30,7 @@ use Rattle.cycle.specs.Laws.Counters.{entered, limit, Enabled}
 
 -- ---- the counts of one state
 module _ (img : List ℕ) (s : State) (c : ℕ) where
-  -- what has entered a station has entered the next place or is there; what has entered the queue was taken or is there
+  -- tokens that have entered a station have entered the next place or are in the station
   entered_inside :
       (j : ℕ) → j < stations img c → entered img s c (suc j) ≡ entered img s c (suc (suc j)) + length (get_or (channel_in img s c).row j [])
   unfolding entered contents
@@ -38,6 +38,7 @@ module _ (img : List ℕ) (s : State) (c : ℕ) where
       let row = (channel_in img s c).row in
       rw (drop-cons row j [] (rw (length-row img s c) l)) (omega (arith, length-append (contents (drop (suc j) row)) (get_or row j [])))
 
+  -- tokens that have entered the queue were taken from it or are in it
   entered_end : (j : ℕ) → stations img c ≤ j → entered img s c (suc j) ≡ firings_at s (to img c) + length (channel_in img s c).queue
   unfolding entered contents
   entered_end j l = rw (drop_of_length-le (channel_in img s c).row {i = j} (rw (length-row img s c) l)) (omega arith)
@@ -50,15 +51,17 @@ module _ (img : List ℕ) (s : State) (c : ℕ) where
   unfolding limit
   limit_end j l = rw (le-ltb j (stations img c) l)
 
-  -- what was made is known, and what has entered a place below has at least been taken
+  -- the tokens that were made on a channel are the parameter and one at each firing of its from node
   pub entered_source : entered img s c 0 ≡ suc (firings_at s (from img c))
   unfolding entered
   entered_source = refl
 
+  -- every token that the to node has taken has entered each place of the channel
   pub entered_taken : (j : ℕ) → firings_at s (to img c) ≤ entered img s c (suc j)
   unfolding entered
   entered_taken j = omega arith
 
+  -- the limit of each place is above the number of tokens that the to node has taken
   pub limit_taken : Accepted img → c < channels img → (j : ℕ) → firings_at s (to img c) < limit img s c j
   limit_taken a h j =
       ⊎_elim
@@ -66,7 +69,7 @@ module _ (img : List ℕ) (s : State) (c : ℕ) where
       (λ (l : stations img c ≤ j). rw (limit_end j l) (omega (arith, (a.queues c h).0)))
       (lt-or-ge j (stations img c))
 
-  -- link j is stopped exactly while as many tokens as can have entered the place below it
+  -- link j is stopped exactly while as many tokens have entered the place below it as can
   stop_count :
       (j : ℕ) → let ch = channel_in img s c in
       stopped (drop j ch.row) (stop_below (depth img c) ch) ≡ leb (limit img s c j) (entered img s c (suc j))
@@ -85,7 +88,7 @@ module _ (img : List ℕ) (s : State) (c : ℕ) where
       (lt-or-ge j (stations img c))
 
   module _ (ok : Steady img s) (h : c < channels img) where
-    -- no more have entered a place than can
+    -- no more tokens have entered a place than can have
     pub room : (j : ℕ) → entered img s c (suc j) ≤ limit img s c j
     room j =
         ⊎_elim
@@ -93,7 +96,7 @@ module _ (img : List ℕ) (s : State) (c : ℕ) where
         (λ (l : stations img c ≤ j). rw (limit_end j l, entered_end j l) (omega (arith, ok.within c h)))
         (lt-or-ge j (stations img c))
 
-    -- what was made and has not entered the place below is pending
+    -- the tokens that were made and have not entered place 1 are pending
     entered-first : entered img s c 0 ≡ entered img s c 1 + length (channel_in img s c).source
     unfolding entered tokens
     entered-first =
@@ -105,7 +108,7 @@ module _ (img : List ℕ) (s : State) (c : ℕ) where
           length-append (contents ch.row) ch.source,
         )
 
-    -- what has entered a place and not the next is there, and link j shows the oldest of it
+    -- tokens that have entered a place and not the next are in it, and link j shows the oldest of them
     link_count :
         (j : ℕ) → j ≤ stations img c
         → (entered img s c (suc j) ≤ entered img s c j)
@@ -118,7 +121,7 @@ module _ (img : List ℕ) (s : State) (c : ℕ) where
         (omega (arith, e), omega (arith, e, length-take 1 place))
 
 -- ---- one cycle
--- what passes a link that is stopped at the limit, counted
+-- what a link passes, counted: from a count of `a` above it, `b` below it and a limit `top`, the new one below is the least of b + 1, a and top
 least :
     (link : List ℤ) (a b top : ℕ) → b ≤ a → length link ≡ min 1 (a - b) → b ≤ top
     → b + length (passing link (leb top b)) ≡ min (suc b) (min a top)
@@ -129,7 +132,7 @@ least link a b top h e l =
     (lt-or-ge b top)
 
 module _ (img : List ℕ) (a : Accepted img) (w : ℕ) (s : State) (c : ℕ) (h : c < channels img) where
-  -- what passes link j enters the place below it
+  -- a token that passes link j enters the place below it
   entered_pass :
       (j : ℕ) → j ≤ stations img c → let ch = channel_in img s c in
       entered img (state_after img w s) c (suc j) ≡
@@ -150,7 +153,7 @@ module _ (img : List ℕ) (a : Accepted img) (w : ℕ) (s : State) (c : ℕ) (h 
         length-append (contents (drop j ch.row)) link,
       )
 
-  -- ONE CYCLE, COUNTED: one token more, as far as there are such above and there is room below
+  -- ONE CYCLE, COUNTED: one more token enters a place if one more has entered the place above and the limit allows it
   pub entered-next :
       Steady img s → (j : ℕ) → j ≤ stations img c
       → entered img (state_after img w s) c (suc j) ≡ min (suc (entered img s c (suc j))) (min (entered img s c j) (limit img s c j))
@@ -191,7 +194,7 @@ module _ (img : List ℕ) (s : State) (ok : Steady img s) (c : ℕ) (h : c < cha
       (λ (l : came ≤ fired). rw (le-ltb fired came l) (le-ltb 0 (length (ch.queue ++ shown)) (omega (arith, e, n, count.0))))
       (lt-or-ge fired came))
 
-  -- a token is blocked while there is no room for it on the channel
+  -- a channel is blocked exactly while more tokens were made than can have entered its place 1
   blocked_count : blocked_at img s c ≡ ltb (limit img s c 0) (entered img s c 0)
   unfolding blocked_at stop_above
   blocked_count =

@@ -1,4 +1,4 @@
--- Laws of a cycle: what each node and each channel is after it, and what firing asks. Assumes nothing.
+-- Laws of a cycle: what each node and each channel is after a cycle, and what firing asks. Assumes nothing.
 use Rattle.std.specs.Prelude.{is_some, unwrap_or, pos, Bool, true, false, not, ◌&&◌, List, ◌++◌, ◌↔◌, ◌≡◌, ℕ, suc, ◌+◌, ◌<◌, ℤ, length}
 use Rattle.std.proofs.Math.Logic.Iff.{rfl}
 use Rattle.std.proofs.Math.Path.{refl, sym, ap}
@@ -25,7 +25,7 @@ use Rattle.state.specs.State.{node_at, value_at, firings_at, pending_at, channel
 use Rattle.state.specs.Laws.State.{length-row, node_of, channel_of}
 use Rattle.cycle.specs.Cycle.{stalled, input_at, blocked_at, all_ready, any_blocked, fires, node_after, channel_after_at, state_after}
 
--- a choice of nodes, by field
+-- the value of a chosen node, where the old node's value is chosen once more
 kept_value : (b : Bool) (new old : Node) → let node = new if b else old in (node.value if b else old.value) ≡ node.value
 kept_value true new old = refl
 kept_value false new old = refl
@@ -49,7 +49,7 @@ module _ (img : List ℕ) (w : ℕ) (s : State) where
   unfolding channel_after_at channel_after
   length-next c = length-after (channel_in img s c).source (channel_in img s c).row (stop_below (depth img c) (channel_in img s c)) ∙ length-row img s c
 
-  -- its source shows the node's value, while that is pending
+  -- after a cycle a channel's source shows its from node's value, while that is pending
   pub source_next :
       (c : ℕ) → (channel_after_at img w s c).source ≡
       one_if (pending_after (eqb (pending_at s c) 1) (stop_above (depth img c) (channel_in img s c)) (fires img w s (from img c)))
@@ -66,7 +66,7 @@ module _ (img : List ℕ) (a : Accepted img) (w : ℕ) (s : State) where
   unfolding state_after
   node_next n h = node_of img (suc s.cycles) (node_after img w s) (channel_after_at img w s) n h
 
-  -- a channel after a cycle is that channel after a cycle
+  -- channel c of the state after a cycle is what the cycle makes of channel c
   pub channel-after_at : (c : ℕ) → c < channels img → channel_in img (state_after img w s) c ≡ channel_after_at img w s c
   unfolding state_after
   channel-after_at c h =
@@ -85,7 +85,7 @@ module _ (img : List ℕ) (a : Accepted img) (w : ℕ) (s : State) where
   firings_next n h = ap (λ (x : Node). x.firings) (node_next n h) ∙ firings_if (fires img w s n) _ (node_at s n)
 
 -- ---- firing
--- a node fires exactly if it is not stalled, each of its inputs is ready, and none of its tokens is blocked
+-- a node fires exactly if it is not stalled, each of its inputs is ready, and no channel that it feeds is blocked
 module _ (img : List ℕ) (w : ℕ) (s : State) (n : ℕ) where
   pub fires-iff : (fires img w s n ≡ true) ↔
       (((stalled w n ≡ false) × ((c : ℕ) → c < channels img → to img c ≡ n → is_some (input_at img s c) ≡ true)) ×
@@ -101,11 +101,11 @@ module _ (img : List ℕ) (w : ℕ) (s : State) (n : ℕ) where
       (λ c. nand-iff (eqb (from img c) n) (blocked_at img s c) (eq_iff (from img c) n) rfl)))
 
 module _ (img : List ℕ) (w : ℕ) (s : State) (c : ℕ) (h : c < channels img) where
-  -- a node that fires finds each of its inputs ready,
+  -- a node that fires finds each of its inputs ready
   pub fires_ready : fires img w s (to img c) ≡ true → is_some (input_at img s c) ≡ true
   fires_ready f = ((fires-iff img w s (to img c)).0 f).0.1 c h refl
 
-  -- and so a token on it,
+  -- a channel whose to node fires holds a token
   pub fires-holds : fires img w s (to img c) ≡ true → holds (tokens (channel_in img s c)) ≡ true
   unfolding input_at
   fires-holds f =
@@ -113,11 +113,11 @@ module _ (img : List ℕ) (w : ℕ) (s : State) (c : ℕ) (h : c < channels img)
       let e = fires_ready f in
       valid_holds (tokens ch) (ap (λ (l : Link). is_some l) (oldest_first ch e) ∙ e)
 
-  -- and none of its own tokens blocked
+  -- a channel whose from node fires is not blocked
   pub fires-clear : fires img w s (from img c) ≡ true → blocked_at img s c ≡ false
   fires-clear f = ((fires-iff img w s (from img c)).0 f).1 c h refl
 
-  -- FIFO law of a channel in a state: where its to node fires its oldest token is gone, and where its from node fires the new value is its last
+  -- FIFO law of a channel in a cycle: if its to node fires its oldest token is gone, and if its from node fires the new value is its last
   pub tokens-next :
       Accepted img
       → tokens (channel_in img (state_after img w s) c) ≡
@@ -130,7 +130,7 @@ module _ (img : List ℕ) (w : ℕ) (s : State) (c : ℕ) (h : c < channels img)
       ∙ ap (λ (v : ℤ). drop_if (fires img w s (to img c)) (tokens (channel_in img s c)) ++ one_if (fires img w s (from img c)) v)
       (sym (ap (λ (x : Node). x.value) (node_next img a w s (from img c) (a.wires c h).0)))
 
-  -- its queue, counted: what passes link r comes in, and what the to node takes is gone
+  -- a channel's queue after a cycle, counted: the token that passes link r has come in, and the one that the to node takes is gone
   pub queue_next_lem :
       Accepted img
       → let ch = channel_in img s c in

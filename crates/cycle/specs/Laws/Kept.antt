@@ -1,4 +1,4 @@
--- Every cycle keeps number 21, from every state that has it. Assumes nothing.
+-- A steady state is steady after a cycle, and a state that fits its image fits it after a cycle, up to the last cycle count. Assumes nothing.
 use Rattle.std.specs.Prelude.{List, [], ◌≡◌, ℕ, suc, ◌+◌, ◌<◌, ◌≤◌, length, get_or}
 use Rattle.std.proofs.Common.{ap, arith, length-append}
 use Rattle.laws.specs.Laws.Choice.{one_few}
@@ -17,7 +17,7 @@ use Rattle.cycle.specs.Laws.Cycle.{channel-after_at, firings_next, fires-holds, 
 use Rattle.fitting.specs.Fitting.{Steady, Fitting}
 
 module _ (img : List ℕ) (a : Accepted img) (w : ℕ) (s : State) where
-  -- every cycle keeps what time needs, whatever the cycle count
+  -- the three conditions of a steady state hold after a cycle, whatever the cycle count
   module _ (ok : Steady img s) (c : ℕ) (h : c < channels img) where
     few_next : (j : ℕ) → length (get_or (channel_in img (state_after img w s) c).row j []) ≤ 2
     unfolding channel_after_at channel_after

@@ -48,7 +48,7 @@ use Rattle.cycle.specs.Loops.Parts.{nodes_below, pending_after_at, station_after
 
 -- ---- a channel of a state, by index
 module _ (img : List ℕ) (s : State) (c : ℕ) where
-  -- what link j shows
+  -- what link j of channel c shows
   unfoldable pub link_in : ℕ → List ℤ
   link_in j = link_at (channel_in img s c).source (channel_in img s c).row j
 
@@ -66,7 +66,7 @@ module _ (img : List ℕ) (s : State) (c : ℕ) where
       ap (link_at (channel_in img s c).source (channel_in img s c).row) (sym (length-row img s c))
       ∙ sym (leaving-at (channel_in img s c).source (channel_in img s c).row)
 
-  -- whether link j is stopped
+  -- whether link j of channel c is stopped
   unfoldable pub stop_in : ℕ → Bool
   stop_in j = stopped (drop j (channel_in img s c).row) (stop_below (depth img c) (channel_in img s c))
 
@@ -115,7 +115,7 @@ module _ (img : List ℕ) (s : State) (fit : Fitting img s) (c : ℕ) (h : c < c
       (after_of ch.queue (passing (arriving ch) (full (depth img c) (length ch.queue))) (fires img w s (to img c))
       (passing_few (arriving ch) (full (depth img c) (length ch.queue)) one) (omega (arith, few, a.queues c h)))
 
-  -- a place past the row's end holds nothing, before the cycle and after it
+  -- a station's place past a channel's row holds nothing, before a cycle and after it
   past_row : (j : ℕ) → stations img c ≤ j → j < 8 → station_after_at img w s (8 * c + j) ≡ get_or s.stations (8 * c + j) no_station
   unfolding station_after_at station_at
   past_row j l m =
@@ -123,7 +123,7 @@ module _ (img : List ℕ) (s : State) (fit : Fitting img s) (c : ℕ) (h : c < c
       rw (place_channel c j m, place_station c j m, get_or-eq_default (channel_after_at img w s c).row [] new)
       (sym (station_written img s fit c h j m ∙ ap station_of (row_past img s c j l)))
 
-  -- so the loop leaves it out
+  -- the loop over a channel's stations leaves out the places past the channel's row
   pub row_skip :
       table_over (station_after_at img w s) (8 * c + stations img c) s.stations ≡ table_over (station_after_at img w s) (8 * suc c) s.stations
   row_skip =
@@ -157,11 +157,12 @@ module _ (img : List ℕ) (s : State) (c : ℕ) where
   unfolding brought_below ports_below
   brought_turn value e = rw e
 
-  -- what the two ends of the channel show
+  -- a channel's input, from its queue record and the link that arrives there
   pub input-at : (link : Link) → token link ≡ arriving (channel_in img s c) → link_of (waiting (queue_at s c) ++ token link) ≡ input_at img s c
   unfolding input_at input channel_in
   input-at link e = rw e
 
+  -- whether a channel is blocked, from its pending byte and the stop of its link 0
   pub blocked-at : (pending stop : Bool) → pending ≡ eqb (pending_at s c) 1 → stop ≡ stop_in img s c 0 → blocked pending stop ≡ blocked_at img s c
   unfolding blocked_at stop_in stop_above
   blocked-at pending stop e f = rw (e, f, pending_holds img s c)
@@ -190,7 +191,7 @@ module _ (img : List ℕ) (s : State) (n : ℕ) where
         ready_all,
       )
 
-  -- what the ports' places hold is what a firing node takes
+  -- a firing node's next value, from what stands at its ports' places
   pub taken_turn :
       Accepted img → n < nodes img → (v : ℤ)
       → let brought = brought_below img s (channels img) in
@@ -205,7 +206,7 @@ module _ (img : List ℕ) (s : State) (n : ℕ) where
       let first : get_or ports (3 * n) (pos 0) ≡ get_or ports (3 * n + 0) (pos 0) = rw add-zero in
       rw (first, at 0 (omega arith), at 1 (omega arith), at 2 (omega arith))
 
--- ---- the loops leave the state after the cycle
+-- what the loops leave is the state after the cycle
 pub cycle_done :
     (img : List ℕ) (w : ℕ) (s : State) → Fitting img s
     → moved_below img w s (suc s.cycles) (nodes_below img w s (nodes img)) (channels img) (8 * channels img) ≡ state_after img w s
@@ -231,7 +232,7 @@ pub wire-read :
 unfolding wires_below
 wire-read img c h wires e = rw e (padded-at (wire_at img) (channels img) 96 c _ _ h)
 
--- a channel's fields are indices
+-- a wire's nodes and port are indices, and it has at most eight stations
 pub wire-within :
     (img : List ℕ) → Accepted img → (c : ℕ) → c < channels img → (wire : Wire) → wire ≡ wire_at img c
     → (wire.from < 64) × (wire.to < 64) × (wire.port < 3) × (wire.stations ≤ 8)

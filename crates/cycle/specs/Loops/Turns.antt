@@ -46,16 +46,17 @@ use Rattle.cycle.specs.Loops.PartsLaws.{link_in, stop_in, link_source, link_abov
 use Rattle.cycle.specs.Loops.PartsLaws.{starved_turn, blocked_turn, brought_turn, station_turn, pending_turn, queue_turn, gate_turn, taken_turn}
 use Rattle.cycle.specs.Loops.PartsLaws.{row_skip, cycle_done}
 
--- a state with another node n; with another queue c
+-- a state with another node n
 abbrev pub with_node : State → ℕ → Node → State
 with_node t n node =
     record { cycles = t.cycles; nodes = set t.nodes n node; pending = t.pending; stations = t.stations; queues = t.queues }
 
+-- a state with another queue of channel c
 abbrev pub with_queue : State → ℕ → Queue → State
 with_queue t c queue =
     record { cycles = t.cycles; nodes = t.nodes; pending = t.pending; stations = t.stations; queues = set t.queues c queue }
 
--- one more place of a lent array is written
+-- a table over the first n places of an array, with the next entry set, is the table over n + 1 places
 pub written :
     {A : Type 0} (f : ℕ → A) (n : ℕ) (old : List A) → n < length old → (l : List A) → l ≡ table_over f n old → (x : A) → x ≡ f n
     → set l n x ≡ table_over f (n + 1) old
@@ -64,7 +65,7 @@ written f n old h l e x q = rw (e, q, add-one) (over_set f n old h)
 -- ---- channel c, as it is read: `wire` has its fields
 module _ (img : List ℕ) (a : Accepted img) (s : State) (fit : Fitting img s) (c : ℕ) (h : c < channels img)
     (wire : Wire) (e : wire ≡ wire_at img c) where
-  -- link 0
+  -- link 0, as the code reads it from the pending byte and the from node's value
   pub source_read :
       (link : Link) (v : ℤ) → link ≡ then_some (eqb (get_or s.pending c 0) 1) v → v ≡ (get_or s.nodes wire.from no_node).value
       → token link ≡ link_in img s c 0
@@ -75,13 +76,13 @@ module _ (img : List ℕ) (a : Accepted img) (s : State) (fit : Fitting img s) (
       (q ∙ ap (λ (w : Wire). (get_or s.nodes w.from no_node).value) e)
       ∙ link_source img s c
 
-  -- the stop of link r
+  -- the stop of link r, as the code reads it from the queue's count
   pub full-read : full wire.depth (get_or s.queues c no_queue).count ≡ stop_below (depth img c) (channel_in img s c)
   unfolding wire_at queue_at stop_below
   full-read =
       ap (λ (w : Wire). full w.depth (get_or s.queues c no_queue).count) e ∙ ap (full (depth img c)) (queue_count img s fit c h)
 
-  -- what link r shows
+  -- what link r shows, as the code reads it from the last station or from link 0
   pub arriving-read :
       (link : Link)
       → ((0 < wire.stations) × (link ≡ link_of (held (get_or s.stations (8 * c + (wire.stations - 1)) no_station)))) ⊎
@@ -98,7 +99,7 @@ module _ (img : List ℕ) (a : Accepted img) (s : State) (fit : Fitting img s) (
       let k : 0 ≡ stations img c = omega (arith, r, d.0) in
       d.1 ∙ ap (link_in img s c) k ∙ link_last img s c)
 
-  -- what link j + 1 shows
+  -- what link j + 1 shows, as the code reads it from station j
   pub link_read :
       (j : ℕ) → j < wire.stations → (link : Link) → link ≡ link_of (held (get_or s.stations (8 * c + j) no_station))
       → token link ≡ link_in img s c (j + 1)
@@ -107,7 +108,7 @@ module _ (img : List ℕ) (a : Accepted img) (s : State) (fit : Fitting img s) (
       let r : wire.stations ≡ stations img c = ap (λ (w : Wire). w.stations) e in
       ap token q ∙ link_above img s c j (omega (arith, r)) ∙ ap (link_in img s c) (sym (add-one j))
 
-  -- the stop of link j
+  -- the stop of link j, as the code reads it from station j or from the queue's count
   pub stop_read :
       (j : ℕ) (stop : Bool)
       → ((j < wire.stations) × (stop ≡ holds_two (held (get_or s.stations (8 * c + j) no_station)))) ⊎
@@ -119,7 +120,7 @@ module _ (img : List ℕ) (a : Accepted img) (s : State) (fit : Fitting img s) (
       (λ d. d.1 ∙ stop_inside img s c j (omega (arith, r, d.0)))
       (λ d. d.1 ∙ stop_last img s c j (omega (arith, r, d.0)))
 
-  -- the channel's letter and value
+  -- a channel's letter and value, from the link that arrives at its queue and the stop of that link
   pub reading_read :
       (link : Link) (stop : Bool) → token link ≡ arriving (channel_in img s c) → stop ≡ stop_below (depth img c) (channel_in img s c)
       → reading link stop ≡ reading_at img s c
@@ -157,7 +158,7 @@ module _ (img : List ℕ) (a : Accepted img) (s : State) (fit : Fitting img s) (
 
   -- ---- the move
   module _ (w : ℕ) where
-    -- one more station
+    -- one turn of the loop over a channel's stations: station j has moved
     pub station-read :
         (j : ℕ) → j < wire.stations → (link : Link) (stop : Bool) → token link ≡ link_in img s c j → stop ≡ stop_in img s c (suc j)
         → station_of (place_after (token link) (held (get_or s.stations (8 * c + j) no_station)) stop) ≡ station_after_at img w s (8 * c + j)
@@ -178,12 +179,12 @@ module _ (img : List ℕ) (a : Accepted img) (s : State) (fit : Fitting img s) (
         let there : 8 * c + j < length s.stations = omega (arith, r, a.rows c h, a.few_channels, stations_long img s fit a) in
         rw (q, p, k, over_set (station_after_at img w s) (8 * c + j) s.stations there)
 
-    -- the link that arrives at the queue, behind the last station
+    -- what link r shows is what arrives at the queue
     pub last_read : (link : Link) → token link ≡ link_in img s c wire.stations → token link ≡ arriving (channel_in img s c)
     unfolding wire_at
     last_read link q = q ∙ ap (λ (w : Wire). link_in img s c w.stations) e ∙ link_last img s c
 
-    -- whether the nodes at its ends fire
+    -- whether the nodes at a channel's ends fire, as the code reads it from the array of firing nodes
     pub ends_read :
         (now : List Bool) → now ≡ fires_below img w s (nodes img)
         → (get_or now wire.to false ≡ fires img w s (to img c)) × (get_or now wire.from false ≡ fires img w s (from img c))
@@ -200,7 +201,7 @@ module _ (img : List ℕ) (a : Accepted img) (s : State) (fit : Fitting img s) (
     unfolding pending_at
     pending_read stop fired p q = pending_turn img s c w (eqb (get_or s.pending c 0) 1) stop fired refl p q
 
-    -- the queue, stored if it changes
+    -- a channel's queue record after the cycle, which the code stores only if it changes
     pub queue_read :
         (link : Link) (stop fired : Bool) → token link ≡ arriving (channel_in img s c) → stop ≡ stop_below (depth img c) (channel_in img s c)
         → fired ≡ fires img w s (to img c)
@@ -217,7 +218,7 @@ module _ (img : List ℕ) (a : Accepted img) (s : State) (fit : Fitting img s) (
         ∙ after_idle (get_or s.queues c no_queue) link stop fired (or_left fired (valid && not stop) z)
         (rw v at (or_right fired (valid && not stop) z))
 
-    -- the channel is done
+    -- one turn of the loop over the channels: channel c has moved
     pub channel_turn :
         (cycles : ℕ) (ns : List Node) (t u : State) → t ≡ moved_below img w s cycles ns c (8 * c + wire.stations)
         → ((queue : Queue) × (queue ≡ queue_after_at img w s c) × (u ≡ with_queue t c queue)) ⊎
@@ -252,7 +253,7 @@ module _ (img : List ℕ) (a : Accepted img) (s : State) (fit : Fitting img s) (
       → (stall : Bool) → stall ≡ stalled w n → (not stall && not (get_or starved n false)) && not (get_or held_back n false) ≡ fires img w s n
   fires-read starved held_back p q stall r = rw (p, q, r) (gate_turn img s n w (omega (arith, a.few_nodes)))
 
-  -- it fires
+  -- one turn of the gate where node n fires
   pub fired-read :
       fires img w s n ≡ true → (kinds : List Kind) → KindsBelow img (nodes img) kinds → (brought : List ℤ) → brought ≡ brought_below img s (channels img)
       → (x y z : ℤ) → x ≡ get_or brought (3 * n) (pos 0) → y ≡ get_or brought (3 * n + 1) (pos 0) → z ≡ get_or brought (3 * n + 2) (pos 0)

@@ -1,5 +1,5 @@
 -- `encode::put_counted` meets its contract. Assumes nothing.
-use Rattle.writer.specs.Loops.PutLaws.{put_one, put-after}
+use Rattle.writer.specs.Laws.Put.{put_one, put-after}
 use Rattle.encode.proofs.put_counted.Goals as goal
 
 pub returns : goal.returns

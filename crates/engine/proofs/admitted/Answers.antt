@@ -4,8 +4,7 @@ use Rattle.laws.specs.Choice.{◌if◌else◌}
 use Rattle.image.specs.Image.{nodes, channels}
 use Rattle.refusal.specs.Laws.Number.{number_positive}
 use Rattle.state.specs.declared.State.{State}
-use Rattle.engine.specs.Loops.Taken.{state_number}
-use Rattle.engine.specs.Answer.{sets_above, step_number}
+use Rattle.engine.specs.Answer.{state_number, sets_above, step_number}
 use Rattle.engine.specs.Laws.Answer.{number-state, number_22, number_12, number_last}
 use Rattle.engine.proofs.admitted.Goals.{After-channels-channels, After-sets_above}
 use Rattle.engine.proofs.admitted.Goals as goal

@@ -18,8 +18,8 @@ use Rattle.state.specs.declared.State.{State}
 use Rattle.state.specs.State.{state_of}
 use Rattle.cycle.specs.Cycle.{state_after, after, letters_of, values_of}
 use Rattle.fitting.specs.Fits.{fits}
-use Rattle.engine.specs.Loops.Taken.{state_number, TakenTold, take_more, taken_from, taken_after}
-use Rattle.engine.specs.Answer.{sets_above, step_number, number_of_step, step_answer, letters_written, values_written, RunTold, step_more, ran_from, run_answer}
+use Rattle.engine.specs.Answer.{state_number, sets_above, step_number, number_of_step, step_answer, letters_written, values_written, RunTold, step_more, ran_from, run_answer}
+use Rattle.engine.specs.Loops.Taken.{TakenTold, take_more, taken_from, taken_after}
 
 -- ---- image and state
 module _ (img : List ℕ) (s : State) where
@@ -35,14 +35,14 @@ module _ (img : List ℕ) (s : State) where
   unfolding state_number
   state_0 j e = rw (j, e)
 
-  -- 0 says that the image is accepted and that the state fits
+  -- a number 0 of image and state says that the image is accepted and that the state fits
   pub state_ok : state_number img s ≡ 0 → (judge img ≡ 0) × (fits img s ≡ true)
   unfolding state_number
   state_ok e =
       let j = past_number (judge img) _ e in
       (j.0, not-false (fits img s) (past 20 0 (not (fits img s)) j.1).0)
 
-  -- ---- the step's number goes on from there
+  -- ---- the step's number goes on from that of image and state
   module _ (word letters values : ℕ) where
     pub number-state : (state_number img s ≡ 0 → ⊥) → state_number img s ≡ step_number img s word letters values
     unfolding state_number step_number
@@ -74,7 +74,7 @@ module _ (img : List ℕ) (s : State) where
         → (13 if ltb letters (channels img) || ltb values (channels img) else 0) ≡ step_number img s word letters values
     number_last e d w = rw (number_rest e, d, w)
 
-    -- 0 says that nothing stands in the way of a cycle
+    -- a step's number 0 says that nothing stands in the way of its cycle
     pub number_ok :
         step_number img s word letters values ≡ 0
         → (state_number img s ≡ 0) × (s.cycles ≡ 1000000 → ⊥) × (sets_above (nodes img) word ≡ false) × (channels img ≤ letters)
@@ -116,13 +116,13 @@ pub taken_first : (n d : ℕ) (words : List ℕ) → taken_from n d words ≡ ta
 unfolding taken_after
 taken_first n d words = rw (add-zero, zero-add)
 
--- all are taken
+-- a run all of whose words were found good takes them all
 pub taken_all : (n d : ℕ) (words : List ℕ) (i : ℕ) → length words ≤ i → taken_after n d words i ≡ record { steps = i; number = 0 }
 unfolding taken_after taken_from
 taken_all n d words i h = rw (drop_of_length-le words h, add-zero)
 
 module _ (n d : ℕ) (words : List ℕ) (i : ℕ) (h : i < length words) where
-  -- the next word stands at i
+  -- which words a run takes, by the word at place i
   next_word :
       taken_after n d words i ≡
       (let t = record { steps = 0; number = 22 } if eqb (d + i) 1000000 else
@@ -146,7 +146,7 @@ module _ (n d : ℕ) (words : List ℕ) (i : ℕ) (h : i < length words) where
       let s : i + suc t.steps ≡ suc i + t.steps = omega arith in
       next_word ∙ rw (ne_eqb (d + i) 1000000 e, w, add-one i, k, s)
 
--- no more words are taken than there are, nor than there is room for
+-- a run takes no more words than there are, nor than cycles are left
 pub taken_few :
     (n d : ℕ) (words : List ℕ) → d ≤ 1000000 → let t = taken_from n d words in (t.steps ≤ length words) × (d + t.steps ≤ 1000000)
 unfolding taken_from take_more
@@ -167,7 +167,7 @@ taken_few n d (word ∷ words) h = go (eqb d 1000000) (sets_above n word) refl (
         let k : suc d ≤ 1000000 = omega (arith, n) in
         (omega (arith, r k), omega (arith, r k))
 
--- the words taken, and the state after their cycles, are the run
+-- a run is told by the words that it takes and the state after their cycles
 pub ran_taken :
     (img : List ℕ) (words : List ℕ) (s : State)
     → let t = taken_from (nodes img) s.cycles words in
@@ -190,7 +190,7 @@ ran_taken img (word ∷ words) s = go (eqb s.cycles 1000000) (sets_above (nodes 
     go false true e = refl
     go false false e = ap step_more e
 
--- the run's answer, where image or state is refused, and where neither is
+-- what a run returns, where image or state is refused, and where neither is
 module _ (img : List ℕ) (s : State) (words : List ℕ) where
   pub run_none : (state_number img s ≡ 0 → ⊥) → record { steps = 0; number = state_number img s; state = s } ≡ run_answer img s words
   unfolding state_number run_answer
@@ -209,7 +209,7 @@ module _ (img : List ℕ) (s : State) (words : List ℕ) where
   unfolding run_answer
   run-made e = let r = state_ok img s e in rw (r.0, r.1)
 
-  -- a run that makes no step leaves the state
+  -- a run that makes no step returns the state that it was handed
   pub run_still : (run_answer img s words).steps ≡ 0 → (run_answer img s words).state ≡ s
   unfolding after
   run_still z = at (ℕ_discrete (state_number img s) 0)

@@ -35,7 +35,7 @@ use Rattle.fitting.specs.Laws.Fitting.{pending_shown, station_written, queue_wri
 use Rattle.fitting.specs.Laws.Places.{Cleared, StationClear, QueueClear, Places, fits_iff}
 
 -- ---- arrays whose unused places are 0
--- a station or a queue whose count is within its places
+-- the array of a station or of a queue, whose count is within its places
 stored : (n count : ℕ) (l : List ℤ) → length l ≡ n → count ≤ n → Cleared n count l → Stored n (pos 0) l count
 stored n count l long few clear =
     record {
@@ -50,14 +50,14 @@ StationStored st = Stored 2 (pos 0) st.tokens st.count
 abbrev QueueStored : Queue → Type 0
 QueueStored q = Stored 8 (pos 0) q.tokens q.count
 
--- a mark of 0 or 1 is what it shows
+-- a pending byte of 0 or 1 counts the token that it shows
 pending_count : (m : ℕ) (v : ℤ) → m ≤ 1 → (length (one_if (eqb m 1) v) ≡ m) × (m ≡ (1 if holds (one_if (eqb m 1) v) else 0))
 pending_count zero v h = (refl, refl)
 pending_count (suc zero) v h = (refl, refl)
 pending_count (suc (suc m)) v h = absurd (omega arith)
 
 module _ (img : List ℕ) (s : State) (c : ℕ) where
-  -- the tokens of a channel are those of its mark, its stations and its queue
+  -- the tokens of a channel are those that are pending, in its stations and in its queue
   tokens_count :
       pending_at s c ≤ 1 → ((j : ℕ) → j < stations img c → StationStored (station_at s c j)) → QueueStored (queue_at s c)
       → length (tokens (channel_in img s c)) ≡ pending_at s c + sum_below (λ j. (station_at s c j).count) (stations img c) + (queue_at s c).count
@@ -136,7 +136,7 @@ module _ (img : List ℕ) (a : Accepted img) (s : State) (f : Fitting img s) whe
   queue_within : (c : ℕ) → c < channels img → (queue_at s c).count ≤ depth img c
   queue_within c h = omega (arith, queue_count img s f c h, f.steady.within c h)
 
-  -- a state that fits passes the test,
+  -- a state that fits passes the test of number 21
   pub fits-fitting : fits img s ≡ true
   fits-fitting =
       let below : (c : ℕ) → c < channels img → c < 96 = λ c h. omega (arith, a.few_channels) in
@@ -202,7 +202,7 @@ module _ (img : List ℕ) (a : Accepted img) (s : State) (shape : Shaped s) (p :
   unfolding waiting
   none-waiting c b h = let e = (p.queue c b).1 h in rw e
 
-  -- the arrays
+  -- each array of a state that passes is what the state's own nodes and channels write
   nodes_written : s.nodes ≡ padded 64 no_node (table (node_at s) (nodes img))
   unfolding node_at
   nodes_written =
@@ -271,7 +271,7 @@ module _ (img : List ℕ) (a : Accepted img) (s : State) (shape : Shaped s) (p :
       let row : (j : ℕ) → j < stations img c → StationStored (station_at s c j) = λ j l. station-holds c (below c h) j (omega (arith, a.rows c h)) in
       omega (arith, tokens_count img s c (p.pending c h) row (queue_holds c (below c h)), p.balance c h)
 
--- and a state of the declared shape that passes the test fits
+-- a state of the declared shape that passes the test of number 21 fits
 pub fitting : (img : List ℕ) → Accepted img → (s : State) → Shaped s → fits img s ≡ true → Fitting img s
 fitting img a s shape e =
     let p = (fits_iff img s).0 e in

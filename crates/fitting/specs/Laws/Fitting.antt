@@ -1,4 +1,4 @@
--- A state that fits its image: what stands in it; the fresh state is one. Assumes nothing.
+-- A state that fits its image: what stands in it, and that the fresh state is one. Assumes nothing.
 use Rattle.std.specs.Prelude.{List, [], ◌≡◌, ℕ, ◌*◌, ◌<◌, ℤ, get_or}
 use Rattle.std.proofs.Math.Path.{ap}
 use Rattle.std.proofs.Common.{◌∙◌, arith}
@@ -19,8 +19,8 @@ use Rattle.state.specs.Fresh.{fresh_state}
 use Rattle.state.specs.Laws.Fresh.{fresh_firings, fresh-channel, fresh-tokens}
 use Rattle.fitting.specs.Fitting.{Fitting}
 
--- ---- what stands in it
--- its arrays have the declared lengths
+-- ---- what stands in a state that fits
+-- the arrays of a state that fits have the declared lengths
 module _ (img : List ℕ) (s : State) (fit : Fitting img s) (a : Accepted img) where
   pub nodes_long : length s.nodes ≡ 64
   unfolding state_of
@@ -40,7 +40,7 @@ module _ (img : List ℕ) (s : State) (fit : Fitting img s) (a : Accepted img) w
   unfolding state_of
   queues_long = ap (λ (x : State). length x.queues) fit.written ∙ padded_long _ (channels img) 96 (queue_of []) a.few_channels
 
--- a channel's records are what its tokens write
+-- the records of a channel are what its tokens write, in a state that fits
 module _ (img : List ℕ) (s : State) (fit : Fitting img s) (c : ℕ) (h : c < channels img) where
   pub pending_shown : pending_at s c ≡ (1 if holds (channel_in img s c).source else 0)
   pending_shown = ap (λ (x : State). pending_at x c) fit.written ∙ pending_of img s.cycles (node_at s) (channel_in img s) c h
@@ -51,7 +51,7 @@ module _ (img : List ℕ) (s : State) (fit : Fitting img s) (c : ℕ) (h : c < c
   pub queue_written : queue_at s c ≡ queue_of (channel_in img s c).queue
   queue_written = ap (λ (x : State). queue_at x c) fit.written ∙ queue_of_lem img s.cycles (node_at s) (channel_in img s) c h
 
-  -- so the count of a queue is that of its tokens
+  -- the count of a queue is that of its tokens, in a state that fits
   pub queue_count : (queue_at s c).count ≡ length (channel_in img s c).queue
   unfolding queue_of
   queue_count = ap (λ (q : Queue). q.count) queue_written

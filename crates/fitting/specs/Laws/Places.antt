@@ -21,19 +21,21 @@ abbrev pub Cleared : ℕ → ℕ → List ℤ → Type 0
 Cleared n count l = (i : ℕ) → i < n → count ≤ i → get_or l i (pos 0) ≡ pos 0
 
 module _ (img : List ℕ) (s : State) where
-  -- station j of channel c is 0 where it holds no token, and holds none if it is not there; the same of the channel's queue
+  -- station j of channel c is 0 where it holds no token, and holds none if it is not one of the image
   abbrev pub StationClear : ℕ → ℕ → Type 0
   StationClear c j =
       let st = station_at s c j in
       Cleared 2 st.count st.tokens × ((c < channels img → stations img c ≤ j) → st.count ≡ 0)
 
+  -- the queue of channel c is 0 where it holds no token, and holds none if the channel is not one of the image
   abbrev pub QueueClear : ℕ → Type 0
   QueueClear c = let q = queue_at s c in Cleared 8 q.count q.tokens × (channels img ≤ c → q.count ≡ 0)
 
-  -- the counts of channel c are within their depths, and agree with the firings
+  -- the counts of channel c are within their depths
   abbrev pub Within : ℕ → Type 0
   Within c = ((j : ℕ) → j < stations img c → (station_at s c j).count ≤ 2) × ((queue_at s c).count ≤ depth img c)
 
+  -- the counts of channel c agree with the firings of its nodes
   abbrev pub Balanced : ℕ → Type 0
   Balanced c =
       pending_at s c + sum_below (λ j. (station_at s c j).count) (stations img c) + (queue_at s c).count + firings_at s (to img c) ≡
@@ -102,7 +104,7 @@ module _ (img : List ℕ) (s : State) where
       and-iff (zero_from 8 q.count q.tokens) (ltb c (channels img) || eqb q.count 0) (zero_from_lem 8 q.count q.tokens)
       (or-iff (ltb c (channels img)) (eqb q.count 0) (ge-iff c (channels img)) (eq_iff q.count 0))
 
-  -- the places of channel c
+  -- the places of channel c: its pending byte, its stations and its queue
   unfoldable pub channel_clear : ℕ → Bool
   channel_clear c = pending_clear img s c && all_below (station_clear img s c) 8 && queue_clear img s c
 
@@ -122,7 +124,7 @@ module _ (img : List ℕ) (s : State) where
       eq_iff (pending_at s c + sum_below (λ j. (station_at s c j).count) (stations img c) + (queue_at s c).count + firings_at s (to img c))
       (firings_at s (from img c) + 1)
 
-  -- all of them together
+  -- a state passes the test of number 21 exactly if its places have what the conditions say
   pub fits_iff : (fits img s ≡ true) ↔ Places img s
   unfolding fits counts_fit unused_clear channel_clear
   fits_iff =

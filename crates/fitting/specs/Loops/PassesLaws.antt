@@ -22,7 +22,7 @@ use Rattle.fitting.specs.Fits.{cycles_fit, firings_fit, node_clear, stations_fit
 use Rattle.fitting.specs.Loops.Passes.{empty_station, empty_queue, nodes_fit, channel_fits, channels_fit, contents_clear, place_clear, queue_empty, channels_clear}
 use Rattle.fitting.specs.Laws.Places.{Places, Cleared, StationClear, Within, Balanced, zero_from_lem, cycles_say, firings_say, counts_say, node_says, pending_says, balance_says, fits_iff}
 
--- a station and a queue that are not there
+-- a station, and a queue, that holds no token and is 0 throughout
 abbrev EmptyStation : Station → Type 0
 EmptyStation st = Cleared 2 st.count st.tokens × (st.count ≡ 0)
 
@@ -38,7 +38,7 @@ unfolding empty_queue
 empty_queue_says q = and-iff (zero_from 8 q.count q.tokens) (eqb q.count 0) (zero_from_lem 8 q.count q.tokens) (eq_iff q.count 0)
 
 module _ (img : List ℕ) (a : Accepted img) (s : State) where
-  -- what each pass says
+  -- what the pass over the nodes says
   abbrev NodesFit : Type 0
   NodesFit =
       ((n : ℕ) → n < nodes img → firings_at s n ≤ s.cycles) × ((n : ℕ) → n < 64 → nodes img ≤ n → (value_at s n ≡ pos 0) × (firings_at s n ≡ 0))
@@ -48,6 +48,7 @@ module _ (img : List ℕ) (a : Accepted img) (s : State) where
   nodes_say =
       and-iff (firings_fit img s) (all_below (node_clear img s) 64) (firings_say img s) (all_iff (node_clear img s) 64 (node_says img s))
 
+  -- what the first pass over the channels of the image says of channel c
   abbrev ChannelFits : ℕ → Type 0
   ChannelFits c = ((pending_at s c ≤ 1) × Within img s c) × Balanced img s c
 
@@ -60,6 +61,7 @@ module _ (img : List ℕ) (a : Accepted img) (s : State) where
       and-iff (leb (pending_at s c) 1 && within c) (balanced img s c)
       (and-iff (leb (pending_at s c) 1) (within c) (le_iff (pending_at s c) 1) (counts_say img s c)) (balance_says img s c))
 
+  -- what the second pass over the channels of the image says of channel c
   abbrev ChannelClear : ℕ → Type 0
   ChannelClear c =
       (((j : ℕ) → j < stations img c → Cleared 2 (station_at s c j).count (station_at s c j).tokens)
@@ -78,6 +80,7 @@ module _ (img : List ℕ) (a : Accepted img) (s : State) where
       (all_iff rest 8 (λ j. or-iff (ltb j (stations img c)) (empty_station (station_at s c j)) (ge-iff j (stations img c)) (empty_station_says (station_at s c j)))))
       (zero_from_lem 8 q.count q.tokens)
 
+  -- what the passes over the places of all channels say
   abbrev ChannelsClear : Type 0
   ChannelsClear =
       ((((c : ℕ) → c < channels img → ChannelClear c) × ((c : ℕ) → c < 96 → channels img ≤ c → pending_at s c ≡ 0))
@@ -101,7 +104,7 @@ module _ (img : List ℕ) (a : Accepted img) (s : State) where
       (all_iff (queue_empty img s) 96
       (λ c. or-iff (ltb c (channels img)) (empty_queue (queue_at s c)) (ge-iff c (channels img)) (empty_queue_says (queue_at s c))))
 
-  -- a station's place, used or not, from the places that the pass sees, and back
+  -- the place of a station, used or not, from the places that the pass sees, and the other way round
   station_seen : ChannelsClear → (c : ℕ) → c < 96 → (j : ℕ) → j < 8 → StationClear img s c j
   unfolding station_at
   station_seen p c h j g =

@@ -12,7 +12,7 @@ pub inputs-none : (k : ℕ) → 10 ≤ k → inputs k ≡ 0
 unfolding inputs
 inputs-none k h = rw get_or-eq_default
 
--- and no kind has more than three
+-- no kind has more than three inputs
 few : all_below (λ k. leb (inputs k) 3) 10 ≡ true
 unfolding all_below inputs
 few = refl

@@ -1,4 +1,4 @@
--- Laws of ports and of such arrays. Assumes nothing.
+-- Laws of ports, and of arrays with a place for each of them. Assumes nothing.
 use Rattle.std.specs.Prelude.{true, false, List, ◌↔◌, ◌≡◌, eqb, get_or}
 use Rattle.std.proofs.Common.{true≢false, sym, ◌∙◌, arith, get_or-set_same}
 use Rattle.std.proofs.Math.Logic.{⊎_elim}
@@ -12,7 +12,7 @@ use Rattle.image.specs.Image.{to, port, feeds}
 use Rattle.image.specs.Loops.Ports.{port_place, Wired, ports_below}
 
 module _ (img : List ℕ) where
-  -- channel c feeds port p of node n
+  -- the test `feeds` says that channel c leads to node n, at port p
   pub feeds_ok : (n p c : ℕ) → (feeds img n p c ≡ true) ↔ ((to img c ≡ n) × (port img c ≡ p))
   unfolding feeds
   feeds_ok n p c = and-iff (eqb (to img c) n) (eqb (port img c) p) (eq_iff (to img c) n) (eq_iff (port img c) p)
@@ -24,7 +24,7 @@ module _ (img : List ℕ) where
   feeds_there : (n p c : ℕ) → p < 3 → port img c < 3 → feeds img n p c ≡ false → port_place n p ≡ port_place (to img c) (port img c) → ⊥
   feeds_there n p c l h e q = true≢false (sym ((feeds_ok n p c).1 (omega arith, omega arith)) ∙ e)
 
-  -- the place of each channel's port is one of 192
+  -- the place of the port of each channel below c is one of 192
   pub place_there : (c : ℕ) → Wired img c → (k : ℕ) → k < c → port_place (to img k) (port img k) < 192
   place_there c w k h = omega (arith, w.node k h, w.input k h)
 

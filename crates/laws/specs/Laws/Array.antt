@@ -7,7 +7,7 @@ use Rattle.laws.specs.Table.{table}
 use Rattle.laws.specs.Laws.Table.{table_same, table_own}
 
 module _ {F B : Type 0} (g : Mut F (ℕ × Unit {0}) B) (f : F) (h : ℕ → B) where
-  -- each call at a number below n gives what h gives, and leaves the closure as it was
+  -- each call of the closure f at a number below n gives what h gives, and leaves the closure as it was
   abbrev pub Gives : ℕ → Type 0
   Gives n = (i : ℕ) (y : B) (q : F) → i < n → Called g f (i, tt) y q → (q ≡ f) × (y ≡ h i)
 

@@ -10,14 +10,14 @@ use Rattle.laws.specs.Choice.{◌if◌else◌}
 use Rattle.laws.specs.Below.{all_below, any_below, sum_below, most_below, pick_below}
 use Rattle.laws.specs.Laws.Cases.{true_or_false, or_left, or_right, not-or, below_suc}
 
--- one hit is enough
+-- a test that holds at one number below n holds at some number below n
 pub any_hit : (f : ℕ → Bool) (k n : ℕ) → k < n → f k ≡ true → any_below f n ≡ true
 unfolding any_below
 any_hit f k zero h e = absurd (not-suc-le-zero h)
 any_hit f k (suc n) h e =
     ⊎_elim (λ (q : k ≡ n). rw (← q, e) (or-true (any_below f k))) (λ (l : k < n). rw (any_hit f k n l e)) (below_suc h)
 
--- where there is a hit, here is one
+-- where a test holds at some number below n, a number at which it holds
 pub any_where : (f : ℕ → Bool) (n : ℕ) → any_below f n ≡ true → (k : ℕ) × (k < n) × (f k ≡ true)
 unfolding any_below
 any_where f zero e = absurd (false≢true e)
@@ -27,36 +27,36 @@ any_where f (suc n) e =
     (λ (q : any_below f n ≡ false). (n, omega arith, rw q at e))
     (true_or_false (any_below f n))
 
--- where there is no hit, no number below n is one
+-- where a test holds at no number below n, it fails at each
 pub any_none : (f : ℕ → Bool) (k n : ℕ) → any_below f n ≡ false → k < n → f k ≡ false
 unfolding any_below
 any_none f k zero e h = absurd (not-suc-le-zero h)
 any_none f k (suc n) e h =
     ⊎_elim (λ (q : k ≡ n). rw q (or_right (any_below f n) (f n) e)) (λ (l : k < n). any_none f k n (or_left (any_below f n) (f n) e) l) (below_suc h)
 
--- and the other way round
+-- a test that fails at each number below n holds at none of them
 pub none_any : (f : ℕ → Bool) (n : ℕ) → ((k : ℕ) → k < n → f k ≡ false) → any_below f n ≡ false
 unfolding any_below
 none_any f zero h = refl
 none_any f (suc n) h = rw (none_any f n (λ k l. h k (omega arith)), h n (omega arith))
 
--- `all_below` is `any_below` the other way round
+-- a test holds at all numbers below n exactly if its opposite holds at none
 pub all_any : (f : ℕ → Bool) (n : ℕ) → all_below f n ≡ not (any_below (λ k. not (f k)) n)
 unfolding all_below any_below
 all_any f zero = refl
 all_any f (suc n) = rw (all_any f n, not-or, not-not)
 
--- what holds at all of them holds at each
+-- what holds at all numbers below n holds at each
 pub all_at : (f : ℕ → Bool) (k n : ℕ) → k < n → all_below f n ≡ true → f k ≡ true
 all_at f k n h e = not-false (f k) (any_none (λ i. not (f i)) k n (not-true (any_below (λ i. not (f i)) n) (sym (all_any f n) ∙ e)) h)
 
--- and the other way round
+-- what holds at each number below n holds at all of them
 pub all_from : (f : ℕ → Bool) (n : ℕ) → ((k : ℕ) → k < n → f k ≡ true) → all_below f n ≡ true
 unfolding all_below
 all_from f zero h = refl
 all_from f (suc n) h = rw (all_from f n (λ k l. h k (omega arith)), h n (omega arith))
 
--- tests that agree below n find the same there
+-- of two tests that agree below n, both hold at some number below n or neither does
 pub any_same : (f g : ℕ → Bool) (n : ℕ) → ((k : ℕ) → k < n → f k ≡ g k) → any_below f n ≡ any_below g n
 unfolding any_below
 any_same f g zero h = refl
@@ -70,25 +70,25 @@ all_same f g n h =
 pub none-iff : {P : ℕ → Type 0} (f : ℕ → Bool) (n : ℕ) → ((k : ℕ) → (f k ≡ false) ↔ P k) → (any_below f n ≡ false) ↔ ((k : ℕ) → k < n → P k)
 none-iff f n iff = (λ e k h. (iff k).0 (any_none f k n e h), λ h. none_any f n (λ k l. (iff k).1 (h k l)))
 
--- the same of a test that holds where P does
+-- a test that holds at each number where P holds, and only there, holds at all below n exactly if P holds at all of them
 pub all_iff : {P : ℕ → Type 0} (f : ℕ → Bool) (n : ℕ) → ((k : ℕ) → (f k ≡ true) ↔ P k) → (all_below f n ≡ true) ↔ ((k : ℕ) → k < n → P k)
 all_iff f n iff = (λ e k h. (iff k).0 (all_at f k n h e), λ h. all_from f n (λ k l. (iff k).1 (h k l)))
 
 -- ---- sums, and the largest
--- counts that agree below n have the same sum
+-- counts that agree below n have the same sum there
 pub sum_same : (f g : ℕ → ℕ) (n : ℕ) → ((k : ℕ) → k < n → f k ≡ g k) → sum_below f n ≡ sum_below g n
 unfolding sum_below
 sum_same f g zero h = refl
 sum_same f g (suc n) h = rw (sum_same f g n (λ k l. h k (omega arith)), h n (omega arith))
 
--- none is over the largest
+-- what f counts at a number below n is at most the largest that it counts there
 pub most-at : (f : ℕ → ℕ) (k n : ℕ) → k < n → f k ≤ most_below f n
 unfolding most_below
 most-at f k zero h = absurd (not-suc-le-zero h)
 most-at f k (suc n) h = ⊎_elim (λ (e : k ≡ n). rw e (omega arith)) (λ (l : k < n). omega (arith, most-at f k n l)) (below_suc h)
 
 -- ---- what is picked
--- a pick is d, or f at a number below n: what holds of these holds of it
+-- a pick is d, or f at a number below n: what holds of d and of each of these holds of the pick
 pub pick_one :
     {A : Type 0} (P : A → Type 0) (test : ℕ → Bool) (f : ℕ → A) (d : A) (n : ℕ)
     → P d → ((k : ℕ) → k < n → P (f k)) → P (pick_below test f d n)
@@ -109,7 +109,7 @@ pick_map g test f d zero = refl
 pick_map g test f d (suc n) =
     ⊎_elim (λ (e : test n ≡ true). rw e) (λ (e : test n ≡ false). rw e (pick_map g test f d n)) (true_or_false (test n))
 
--- picks by tests that agree, from functions that agree where they hold
+-- picks by tests that agree, from functions that agree where the tests hold, are the same
 pub pick_same :
     {A : Type 0} (s t : ℕ → Bool) (f g : ℕ → A) (d : A) (n : ℕ)
     → ((k : ℕ) → k < n → s k ≡ t k) → ((k : ℕ) → k < n → t k ≡ true → f k ≡ g k) → pick_below s f d n ≡ pick_below t g d n
@@ -122,7 +122,7 @@ pick_same s t f g d (suc n) h l =
     (λ (e : t n ≡ false). rw e (pick_same s t f g d n (λ k b. h k (omega arith)) (λ k b. l k (omega arith))))
     (true_or_false (t n)))
 
--- where the test holds at one number alone, f there is picked
+-- where the test holds at one number below n alone, the pick is f at that number
 pub pick_only :
     {A : Type 0} (test : ℕ → Bool) (f : ℕ → A) (d : A) (k n : ℕ)
     → k < n → test k ≡ true → ((j : ℕ) → j < n → test j ≡ true → j ≡ k) → pick_below test f d n ≡ f k
@@ -138,7 +138,7 @@ pick_only test f d k (suc n) h e only =
     (true_or_false (test n)))
     (below_suc h)
 
--- whether there is anything to pick
+-- a pick of true, and of false where the test holds at no number, says whether the test holds at some number below n
 pub pick_any : (test : ℕ → Bool) (n : ℕ) → pick_below test (λ k. true) false n ≡ any_below test n
 unfolding pick_below any_below
 pick_any test zero = refl
@@ -154,14 +154,14 @@ numbers_next : (a n last : ℕ) → a + n ≡ last → range_with_len a (suc n) 
 numbers_next a zero last e = ap (λ (k : ℕ). k ∷ []) (omega (arith, e))
 numbers_next a (suc n) last e = ap (λ (l : List ℕ). a ∷ l) (numbers_next (a + 1) n last (omega (arith, e)))
 
--- whether the test holds at one of them
+-- whether a test holds at some number of the list 0, 1, .., n - 1
 pub any_range : (f : ℕ → Bool) (n : ℕ) → list_any f (range_with_len 0 n) ≡ any_below f n
 unfolding any_below
 any_range f zero = refl
 any_range f (suc n) =
     ap (list_any f) (numbers_next 0 n n (omega arith)) ∙ rw (list_any-append, any_range f n, or-false)
 
--- whether it holds at all of them
+-- whether a test holds at all numbers of the list 0, 1, .., n - 1
 pub all_range : (f : ℕ → Bool) (n : ℕ) → list_all f (range_with_len 0 n) ≡ all_below f n
 unfolding all_below
 all_range f zero = refl

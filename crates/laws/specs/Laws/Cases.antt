@@ -9,7 +9,7 @@ pub true_or_false : (b : Bool) → (b ≡ true) ⊎ (b ≡ false)
 true_or_false true = inl refl
 true_or_false false = inr refl
 
--- two numbers are in order, or they are not
+-- of two numbers a and b, a is below b or b is at most a
 pub lt-or-ge : (a b : ℕ) → (a < b) ⊎ (b ≤ a)
 lt-or-ge a b = by_dec (dec_lt a b)
   where
@@ -17,11 +17,11 @@ lt-or-ge a b = by_dec (dec_lt a b)
     by_dec (yes h) = inl h
     by_dec (no f) = inr (omega arith)
 
--- the numbers below suc n are n and those below it
+-- a number below suc n is n, or is below n
 pub below_suc : {k n : ℕ} → k < suc n → (k ≡ n) ⊎ (k < n)
 below_suc h = eq-or-lt_of_le (le_of_suc-le-suc h)
 
--- both parts of an `&&` that holds
+-- an `&&` that holds: both of its parts hold
 pub and_left : (a b : Bool) → (a && b) ≡ true → a ≡ true
 and_left true b e = refl
 and_left false b e = e
@@ -30,7 +30,7 @@ pub and_right : (a b : Bool) → (a && b) ≡ true → b ≡ true
 and_right true b e = e
 and_right false b e = absurd (false≢true e)
 
--- both parts of an `||` that fails
+-- an `||` that fails: both of its parts fail
 pub or_left : (a b : Bool) → (a || b) ≡ false → a ≡ false
 or_left true b e = absurd (true≢false e)
 or_left false b e = refl
@@ -39,7 +39,7 @@ pub or_right : (a b : Bool) → (a || b) ≡ false → b ≡ false
 or_right true b e = absurd (true≢false e)
 or_right false b e = e
 
--- neither part of it holds
+-- an `||` fails exactly where both of its parts fail
 pub not-or : (a b : Bool) → not (a || b) ≡ (not a && not b)
 not-or true b = refl
 not-or false b = refl

@@ -3,18 +3,18 @@ use Rattle.std.specs.Prelude.{Bool, true, false, not, ◌≡◌, refl, ℕ, zero
 use Rattle.std.proofs.Common.{arith, ne_eqb}
 use Rattle.laws.specs.Choice.{◌if◌else◌}
 
--- a test, counted
+-- a test counted as 1 or as 0 is at most 1
 pub one_few : (b : Bool) → (1 if b else 0) ≤ 1
 one_few true = omega arith
 one_few false = omega arith
 
 -- ---- a chain, "14 if .. else 13 if .. else 0", whose answer is 0
--- the first test has failed, and the rest of the chain answers 0
+-- where a chain of numbers answers 0, its first test has failed, and the rest of the chain answers 0
 pub past : (k later : ℕ) (test : Bool) → (suc k if test else later) ≡ 0 → (test ≡ false) × (later ≡ 0)
 past k later true e = absurd (omega arith)
 past k later false e = (refl, e)
 
--- the same of a chain that begins with another one's number
+-- where a chain that begins with the number of another chain answers 0, that number is 0, and the rest of the chain answers 0
 pub past_number : (number later : ℕ) → (number if not (eqb number 0) else later) ≡ 0 → (number ≡ 0) × (later ≡ 0)
 past_number zero later e = (refl, e)
 past_number (suc k) later e = let h : suc k ≡ 0 = rw (ne_eqb (suc k) 0 (λ q. omega arith)) at e in absurd (omega arith)

@@ -1,4 +1,4 @@
--- Laws of such lists, and of the arrays that hold them. Assumes nothing.
+-- Laws of lists that are filled at the end and emptied at the front, and of the arrays that hold them. Assumes nothing.
 use Rattle.std.specs.Prelude.{Bool, true, false, ◌≡◌, refl, leb, get_or, drop, set}
 use Rattle.std.proofs.lemmas.Bool.{false≢true}
 use mathlib.Core.List.{List, [], ◌∷◌, ◌++◌, append_assoc}
@@ -17,7 +17,7 @@ use Rattle.laws.specs.Laws.Choice.{one_few}
 use Rattle.laws.specs.Lists.{holds, holds_two, one_if, drop_if, padded, Stored}
 
 module _ {A : Type 0} where
-  -- what is dropped comes from the first of two lists, where that has an element
+  -- what `drop_if` takes from two lists, one behind the other, comes from the first of them, where that has an element
   pub drop_if-append : (xs ys : List A) (b : Bool) → (b ≡ true → holds xs ≡ true) → drop_if b (xs ++ ys) ≡ drop_if b xs ++ ys
   drop_if-append xs ys false h = refl
   drop_if-append [] ys true h = absurd (false≢true (h refl))
@@ -28,13 +28,13 @@ module _ {A : Type 0} where
   length-drop_if true [] = omega arith
   length-drop_if true (x ∷ xs) = omega arith
 
-  -- what is dropped from a list that has an element is one
+  -- `drop_if` takes one element where the test holds and the list has one, and none where the test fails
   pub length_dropped : (b : Bool) (xs : List A) → (b ≡ true → holds xs ≡ true) → length (drop_if b xs) + (1 if b else 0) ≡ length xs
   length_dropped false xs h = omega arith
   length_dropped true [] h = absurd (false≢true (h refl))
   length_dropped true (x ∷ xs) h = omega arith
 
-  -- one element or none
+  -- `one_if` has one element where the test holds, and none where it fails
   pub length-one_if : (b : Bool) (x : A) → length (one_if b x) ≡ (1 if b else 0)
   length-one_if true x = refl
   length-one_if false x = refl
@@ -46,13 +46,13 @@ module _ {A : Type 0} where
   holds_one true x = refl
   holds_one false x = refl
 
-  -- two elements or more
+  -- a list holds two elements or more exactly if its length is two or more
   pub two_count : (xs : List A) → holds_two xs ≡ leb 2 (length xs)
   two_count [] = refl
   two_count (x ∷ []) = refl
   two_count (x ∷ y ∷ xs) = sym (le-leb 2 (suc (suc (length xs))) (omega arith))
 
-  -- past its end a list has no more
+  -- `take n` and `drop n` reach no further than the end of the list
   pub take_min : (n : ℕ) (xs : List A) → take n xs ≡ take (min n (length xs)) xs
   take_min n xs =
       ⊎_elim
@@ -76,7 +76,7 @@ module _ {A : Type 0} where
   unfolding padded
   take-padded n d xs = take-append_seam xs (replicate (n - length xs) d)
 
-  -- every element of n times d is d, past the end too
+  -- every element of a list of n times d is d, and so is what is read past its end
   pub replicate_rest : (n k : ℕ) (d : A) → get_or (replicate n d) k d ≡ d
   replicate_rest zero k d = refl
   replicate_rest (suc n) zero d = refl
@@ -88,7 +88,7 @@ module _ {A : Type 0} where
       let e : k ≡ length xs + (k - length xs) = omega arith in
       rw (e, get_or-append-add) (replicate_rest (n - length xs) (k - length xs) d)
 
-  -- nothing that is read changes, where what is past the end reads d
+  -- a list padded with d reads as it did before, where what is past the end reads d
   pub get_or-padded : (n : ℕ) (d : A) (xs : List A) (k : ℕ) → get_or (padded n d xs) k d ≡ get_or xs k d
   unfolding padded
   get_or-padded n d xs k =
@@ -97,7 +97,7 @@ module _ {A : Type 0} where
       (λ (h : length xs ≤ k). padded_rest n d xs k h ∙ sym (get_or-eq_default xs d h))
       (lt-or-ge k (length xs))
 
-  -- one more element goes into the first place behind the others
+  -- an element written to the first place of a padded list that is free stands behind the others
   pub padded-set : (n : ℕ) (d : A) (xs : List A) (x : A) → length xs < n → set (padded n d xs) (length xs) x ≡ padded n d (xs ++ (x ∷ []))
   unfolding padded
   padded-set n d xs x h =
@@ -105,7 +105,7 @@ module _ {A : Type 0} where
       let l : length (xs ++ (x ∷ [])) ≡ suc (length xs) = length-append xs (x ∷ []) ∙ add-one (length xs) in
       rw (l, e, set-append_seam) (sym (append_snoc xs x (replicate (n - suc (length xs)) d)))
 
-  -- the first element leaves, and d follows the last
+  -- a padded list without its first element, and with d at the end, is the rest of the list, padded
   pub padded-drop : (n : ℕ) (d : A) (x : A) (xs : List A) → length xs < n → drop 1 (padded n d (x ∷ xs)) ++ (d ∷ []) ≡ padded n d xs
   unfolding padded
   padded-drop n d x xs h =
@@ -113,7 +113,7 @@ module _ {A : Type 0} where
       append_assoc xs (replicate (n - suc (length xs)) d) (d ∷ [])
       ∙ ap (λ (t : List A). xs ++ t) (replicate-append-replicate (n - suc (length xs)) 1 d ∙ ap (λ (k : ℕ). replicate k d) e)
 
-  -- a padded list is so stored, and what is so stored is its own elements, padded
+  -- a padded list is `Stored`, and an array that is `Stored` is its own elements, padded
   pub stored-padded : (n : ℕ) (d : A) (xs : List A) → length xs ≤ n → Stored n d (padded n d xs) (length xs)
   stored-padded n d xs h = record { few = h; long = length-padded n d xs h; rest = λ k l. padded_rest n d xs k l }
 

@@ -15,7 +15,7 @@ use Rattle.laws.specs.Laws.Table.{length-table, table_at}
 use Rattle.laws.specs.Stretch.{Stretch}
 
 module _ {A : Type 0} (f : ℕ → A) where
-  -- one follows the other, in the list and in the stream
+  -- two stretches, of which the second begins where the first ends, are together one stretch
   pub stretch-append : (a : ℕ) (xs ys : List A) → Stretch f a xs → Stretch f (a + length xs) ys → Stretch f a (xs ++ ys)
   unfolding Stretch
   stretch-append a [] ys s t = rw add-zero at t
@@ -31,13 +31,13 @@ module _ {A : Type 0} (f : ℕ → A) where
   stretch_second a [] ys s = rw add-zero s
   stretch_second a (x ∷ xs) ys s = rw (add-suc, ← (suc-add a (length xs))) (stretch_second (suc a) xs ys s.1)
 
-  -- one element or none
+  -- a list of one element or none is a stretch from a, if its element is f a
   pub stretch_one : (a : ℕ) (b : Bool) (x : A) → (b ≡ true → x ≡ f a) → Stretch f a (one_if b x)
   unfolding Stretch
   stretch_one a true x h = (h refl, tt)
   stretch_one a false x h = tt
 
-  -- without its first element it begins one later
+  -- a stretch without its first element is a stretch that begins one later
   pub stretch-drop : (a : ℕ) (b : Bool) (xs : List A) → (b ≡ true → holds xs ≡ true) → Stretch f a xs → Stretch f (a + (1 if b else 0)) (drop_if b xs)
   unfolding Stretch
   stretch-drop a false xs h s = rw add-zero s
@@ -50,7 +50,7 @@ module _ {A : Type 0} (f : ℕ → A) where
   stretch-at a (x ∷ xs) zero d s h = rw add-zero s.0
   stretch-at a (x ∷ xs) (suc i) d s h = rw (add-suc, ← (suc-add a i)) (stretch-at (suc a) xs i d s.1 (le_of_suc-le-suc h))
 
-  -- from the start of the stream, it is the first so many of it
+  -- a stretch from the start of the stream is a table of as many of its elements
   pub stretch-table : (xs : List A) → Stretch f 0 xs → xs ≡ table f (length xs)
   stretch-table xs s =
       ext_get_or (f 0) xs (table f (length xs)) (sym (length-table f (length xs)))

@@ -17,7 +17,7 @@ use Rattle.laws.specs.Laws.Lists.{length-padded, replicate_rest, padded_rest, pa
 use Rattle.laws.specs.Table.{table, table_over}
 
 module _ {A : Type 0} where
-  -- what stands in a list is there whatever is read past its end
+  -- an element of a list reads the same, whatever is read past the end of the list
   pub get_d_any : (l : List A) (i : ℕ) (d e : A) → i < length l → get_or l i d ≡ get_or l i e
   get_d_any [] i d e h = absurd (not-suc-le-zero h)
   get_d_any (x ∷ l) zero d e h = refl
@@ -28,7 +28,7 @@ module _ {A : Type 0} where
   length-table f zero = refl
   length-table f (suc n) = rw (length-append, length-table f n) (omega arith)
 
-  -- the entry at a place
+  -- the entry of a table at place i is f i
   pub table_at : (f : ℕ → A) (n i : ℕ) (d : A) → i < n → get_or (table f n) i d ≡ f i
   unfolding table
   table_at f zero i d h = absurd (not-suc-le-zero h)
@@ -38,13 +38,13 @@ module _ {A : Type 0} where
       (λ (l : i < n). get_or-append (table f n) (f n ∷ []) d i (rw length-table l) ∙ table_at f n i d l)
       (below_suc h)
 
-  -- tables that agree at each place
+  -- tables of functions that agree at each place are the same
   pub table_same : (f g : ℕ → A) (n : ℕ) → ((i : ℕ) → i < n → f i ≡ g i) → table f n ≡ table g n
   unfolding table
   table_same f g zero h = refl
   table_same f g (suc n) h = rw (table_same f g n (λ i l. h i (omega arith)), h n (omega arith))
 
-  -- the first of its places
+  -- the first n places of a table are the table of n places
   pub take-table : (f : ℕ → A) (n m : ℕ) → n ≤ m → take n (table f m) ≡ table f n
   unfolding table
   take-table f zero zero h = refl
@@ -57,7 +57,7 @@ module _ {A : Type 0} where
       rw e (take_all (suc m) (table f m ++ (f m ∷ [])) (rw (length-append, length-table f m) (omega arith))))
       (lt-or-ge n (suc m))
 
-  -- one more place of the list is written
+  -- writing f n to place n carries a table over n places of a list on to n + 1 places
   pub over_set : (f : ℕ → A) (n : ℕ) (l : List A) → n < length l → set (table_over f n l) n (f n) ≡ table_over f (suc n) l
   unfolding table table_over
   over_set f n [] h = absurd (not-suc-le-zero h)
@@ -79,12 +79,12 @@ module _ {A : Type 0} where
   unfolding table_over
   length_over f n l h = rw (length-append, length-table, length-drop) (omega arith)
 
-  -- the entry at a place that is written
+  -- where a table is written over a list, the list has the table's entry at each of the table's places
   pub over_at : (f : ℕ → A) (n : ℕ) (l : List A) (i : ℕ) (d : A) → i < n → get_or (table_over f n l) i d ≡ f i
   unfolding table_over
   over_at f n l i d h = get_or-append (table f n) (drop n l) d i (rw length-table h) ∙ table_at f n i d h
 
-  -- what stands there already need not be written: one place, and all from a on
+  -- a place of a list that already has the table's entry need not be written: one such place, and all from a on
   pub over_same_at : (f : ℕ → A) (d : A) (k : ℕ) (l : List A) → k < length l → f k ≡ get_or l k d → table_over f k l ≡ table_over f (suc k) l
   unfolding table_over table
   over_same_at f d k l h e = rw (drop-cons l k d h, ← e, append_assoc)
@@ -98,7 +98,7 @@ module _ {A : Type 0} where
       over_skip f d a n l (omega arith) (λ i p q. same i p (omega arith))
       ∙ rw e (over_same_at f d (a + n) l (omega arith) (same (a + n) (omega arith) (omega arith)))
 
-  -- over the front of the same list, tables that agree leave the same
+  -- tables that agree leave the same, written over the front of the same list
   pub over_same : (f g : ℕ → A) (n : ℕ) (l : List A) → ((i : ℕ) → i < n → f i ≡ g i) → table_over f n l ≡ table_over g n l
   unfolding table_over
   over_same f g n l h = rw (table_same f g n h)
@@ -108,7 +108,7 @@ module _ {A : Type 0} where
   drop-replicate (suc k) zero d = let e : 0 - suc k ≡ 0 = omega arith in rw e
   drop-replicate (suc k) (suc m) d = let e : suc m - suc k ≡ m - k = omega arith in rw e (drop-replicate k m d)
 
-  -- a table over a padded list that is no longer is the table, padded
+  -- a table written over a padded list that is no longer than the table is the table, padded
   pub over_padded : (f : ℕ → A) (n m : ℕ) (d : A) (xs : List A) → length xs ≤ n → table_over f n (padded m d xs) ≡ padded m d (table f n)
   unfolding table_over padded
   over_padded f n m d xs h =
@@ -119,7 +119,7 @@ module _ {A : Type 0} where
       ∙ drop-replicate (n - length xs) (m - length xs) d ∙ ap (λ k. replicate k d) r in
       rw (rest, length-table)
 
-  -- the same over a padded table of that length
+  -- a table written over a padded table of as many places is the first of them, padded
   pub over_table : (f g : ℕ → A) (n m : ℕ) (d : A) (l : List A) → l ≡ padded m d (table g n) → table_over f n l ≡ padded m d (table f n)
   over_table f g n m d l e = ap (table_over f n) e ∙ over_padded f n m d (table g n) (rw length-table (omega arith))
 
@@ -127,29 +127,29 @@ module _ {A : Type 0} where
   pub padded_long : (f : ℕ → A) (n m : ℕ) (d : A) → n ≤ m → length (padded m d (table f n)) ≡ m
   padded_long f n m d h = length-padded m d (table f n) (rw length-table h)
 
-  -- one more entry
+  -- writing f n to place n of a padded table of n entries makes it one of n + 1 entries
   pub padded-table : (f : ℕ → A) (n m : ℕ) (d : A) → n < m → set (padded m d (table f n)) n (f n) ≡ padded m d (table f (suc n))
   unfolding table
   padded-table f n m d h = rw length-table at (padded-set m d (table f n) (f n) (rw length-table h))
 
-  -- a loop that fills it: one turn
+  -- a loop that fills a padded table: one turn
   pub padded_next :
       (f : ℕ → A) (m : ℕ) (d : A) {n : ℕ} {xs : List A} {x : A} → n < m → xs ≡ padded m d (table f n) → x ≡ f n
       → set xs n x ≡ padded m d (table f (n + 1))
   padded_next f m d {n} h e q = rw (e, q, add-one n) (padded-table f n m d h)
 
-  -- an entry, whatever is read past the end
+  -- an entry of a padded table is f i, whatever is read past the end
   pub padded-at : (f : ℕ → A) (n m i : ℕ) (d e : A) → i < n → get_or (padded m d (table f n)) i e ≡ f i
   unfolding padded
   padded-at f n m i d e h = get_or-append (table f n) (replicate (m - length (table f n)) d) e i (rw length-table h) ∙ table_at f n i e h
 
-  -- past the entries
+  -- past its entries a padded table has d
   pub padded_past : (f : ℕ → A) (n m i : ℕ) (d e : A) → n ≤ i → i < m → get_or (padded m d (table f n)) i e ≡ d
   padded_past f n m i d e h l =
       let few : n ≤ m = omega arith in
       get_d_any (padded m d (table f n)) i e d (rw (padded_long f n m d few) l) ∙ padded_rest m d (table f n) i (rw length-table h)
 
-  -- a list that has these entries, and d in its other places
+  -- a list that has the entries of a table, and d in its other places, is the table, padded
   pub padded_own :
       (f : ℕ → A) (n m : ℕ) (d e : A) (l : List A) → n ≤ m → length l ≡ m
       → ((i : ℕ) → i < n → get_or l i e ≡ f i) → ((i : ℕ) → n ≤ i → i < m → get_or l i e ≡ d) → l ≡ padded m d (table f n)
@@ -161,7 +161,7 @@ module _ {A : Type 0} where
       (λ (g : n ≤ i). let b : i < m = omega arith in rest i g b ∙ sym (padded_past f n m i d e g b))
       (lt-or-ge i n))
 
-  -- a table of nothing but d
+  -- a padded table whose entries all are d is nothing but d
   pub padded_same : (f : ℕ → A) (n m : ℕ) (d : A) → n ≤ m → ((i : ℕ) → i < n → f i ≡ d) → replicate m d ≡ padded m d (table f n)
   padded_same f n m d few same =
       padded_own f n m d d (replicate m d) few (length-replicate m d)
@@ -174,14 +174,14 @@ table_own {A = A} l d =
     let f : ℕ → A = λ i. get_or l i d in
     ext_get_or d l (table f (length l)) (sym (length-table f (length l))) (λ i h. sym (table_at f (length l) i d h))
 
--- and of what a function makes of them
+-- what a function makes of a list is the table of what it makes of each element
 pub table-map : {A B : Type 0} (g : A → B) (l : List A) (d : A) → table (λ i. g (get_or l i d)) (length l) ≡ map g l
 table-map {B = B} g l d =
     let f : ℕ → B = λ i. g (get_or l i d) in
     ext_get_or (g d) (table f (length l)) (map g l) (length-table f (length l) ∙ sym (length-map l g))
     (λ i h. table_at f (length l) i (g d) (rw (← (length-table f (length l))) h) ∙ sym (get_or-map g l i d))
 
--- a flag that is raised at one place of a table of flags
+-- raising the flag at place i of a table of flags leaves the table of the flags with that one raised
 pub table_raise :
     (f : ℕ → Bool) (n i : ℕ) (b : Bool) → i < n → set (table f n) i (get_or (table f n) i false || b) ≡ table (λ k. f k || (eqb i k && b)) n
 table_raise f n i b h =

@@ -26,14 +26,14 @@ pub not_iff : {A : Type 0} (a : Bool) → ((a ≡ false) ↔ A) → (not a ≡ t
 not_iff a f = (λ e. f.0 (not-true a e), λ h. ap not (f.1 h))
 
 module _ {A B : Type 0} where
-  -- an `&&` that holds, and an `||` that fails
+  -- an `&&` holds exactly if both parts hold, and an `||` fails exactly if both parts fail
   pub and-iff : (a b : Bool) → ((a ≡ true) ↔ A) → ((b ≡ true) ↔ B) → ((a && b) ≡ true) ↔ (A × B)
   and-iff a b f g = (λ e. (f.0 (and_left a b e), g.0 (and_right a b e)), λ h. rw (f.1 h.0, g.1 h.1))
 
   pub nor-iff : (a b : Bool) → ((a ≡ false) ↔ A) → ((b ≡ false) ↔ B) → ((a || b) ≡ false) ↔ (A × B)
   nor-iff a b f g = (λ e. (f.0 (or_left a b e), g.0 (or_right a b e)), λ h. rw (f.1 h.0, g.1 h.1))
 
-  -- an `||` that holds, and an `&&` that fails
+  -- an `||` holds exactly if its second part holds where the first fails, and an `&&` fails exactly if its second part fails where the first holds
   pub or-iff : (a b : Bool) → ((a ≡ false) ↔ A) → ((b ≡ true) ↔ B) → ((a || b) ≡ true) ↔ (A → B)
   or-iff true b f g = (λ e h. absurd (true≢false (f.1 h)), λ h. refl)
   or-iff false b f g = (λ e h. g.0 e, λ h. g.1 (h (f.0 refl)))
@@ -42,23 +42,23 @@ module _ {A B : Type 0} where
   nand-iff true b f g = (λ e h. g.0 e, λ h. g.1 (h (f.0 refl)))
   nand-iff false b f g = (λ e h. absurd (false≢true (f.1 h)), λ h. refl)
 
-  -- a test that is made only where another holds
+  -- a test that is made only where another holds passes exactly if what the other says implies what it says
   pub if-iff : (a b : Bool) → ((a ≡ true) ↔ A) → ((b ≡ true) ↔ B) → ((b if a else true) ≡ true) ↔ (A → B)
   if-iff true b f g = (λ e h. g.0 e, λ h. g.1 (h (f.0 refl)))
   if-iff false b f g = (λ e h. absurd (false≢true (f.1 h)), λ h. refl)
 
 -- ---- tests that are the same
--- those that say the same
+-- tests that say the same are the same
 pub test_same : {A : Type 0} (a b : Bool) → ((a ≡ true) ↔ A) → ((b ≡ true) ↔ A) → a ≡ b
 test_same true b f g = sym (g.1 (f.0 refl))
 test_same false true f g = f.1 (g.0 refl)
 test_same false false f g = refl
 
--- the one order by the other
+-- `ltb a b` is the opposite of `leb b a`
 pub ltb_leb : (a b : ℕ) → ltb a b ≡ not (leb b a)
 ltb_leb a b = test_same (ltb a b) (not (leb b a)) (lt_iff a b) (not_iff (leb b a) (gt-iff b a))
 
--- both numbers raised by k
+-- two numbers are in the same order with k added to both
 pub leb_shift : (k a b : ℕ) → leb (k + a) (k + b) ≡ leb a b
 leb_shift k a b =
     let same = le_iff (k + a) (k + b) in

@@ -9,9 +9,9 @@ use Rattle.std.specs.Int.{w32}
 use Rattle.std.proofs.Common.{of_z}
 use Rattle.laws.specs.Table.{table}
 use Rattle.laws.specs.Laws.Table.{length-table, table_own}
-use Rattle.writer.specs.Loops.Put.{Put}
+use Rattle.writer.specs.Put.{Put}
 use Rattle.writer.specs.Laws.Items.{flat_own}
-use Rattle.writer.specs.Loops.PutLaws.{put-after, put_long}
+use Rattle.writer.specs.Laws.Put.{put-after, put_long}
 use Rattle.relay.specs.declared.Station.{Station}
 use Rattle.relay.specs.RowCycle.{no_station}
 use Rattle.shell.specs.declared.Queue.{Queue}
@@ -26,7 +26,7 @@ unfolding bits_of
 bits_few (pos n) h = let l : n < 2 ^ 31 = h in omega arith
 bits_few (negsuc n) h = omega arith
 
--- as the machine has them
+-- the machine's bits of a token are the definition's
 pub bits_same : (z : ℤ) → of_z w32 z ≡ bits_of z
 unfolding bits_of
 bits_same (pos n) = refl
@@ -42,23 +42,23 @@ module _ {A : Type 0} (f : A → List ℕ) (w : ℕ) (long : (x : A) → length 
   pub each_long : (g : ℕ → A) (n : ℕ) → length (each f g n) ≡ w * n
   each_long g n = flat_long (table g n) ∙ rw (length-table g n)
 
-  -- where a loop stands after n of them
+  -- where a loop that stores n items stands after the last
   pub each_end : (g : ℕ → A) (n : ℕ) {at end : ℕ} {old new : List ℕ} → Put (each f g n) at old new end → end ≡ at + w * n
   each_end g n p = p.next ∙ rw (each_long g n)
 
-  -- where a list of n of them ends
+  -- where a stored list of n items ends
   pub end_all :
       (l : List A) {n : ℕ} → length l ≡ n → {at end : ℕ} {old new : List ℕ} → Put (flat_map f l) at old new end
       → (end ≡ at + w * n) × (length new ≡ length old)
   end_all l e p = (p.next ∙ rw (flat_long l, e), put_long p)
 
--- a list of n elements, and its elements read one by one
+-- a stored list of n items is its items stored one by one
 pub each_own :
     {A : Type 0} (f : A → List ℕ) (l : List A) (d : A) {n : ℕ} → length l ≡ n → {at end : ℕ} {old new : List ℕ}
     → Put (flat_map f l) at old new end → Put (each f (λ i. get_or l i d) n) at old new end
 each_own f l d e p = rw (← e, flat_own f l d) p
 
--- so of the tokens of a station or a queue
+-- the tokens of a station or a queue are stored one by one
 pub tokens_own : (tokens : List ℤ) {n : ℕ} → length tokens ≡ n → flat_map token_bytes tokens ≡ each token_bytes (λ i. get_or tokens i (pos 0)) n
 tokens_own tokens e = rw (← e) (sym (flat_own token_bytes tokens (pos 0)))
 
@@ -89,7 +89,7 @@ queue_long q =
     length-append (each token_bytes (λ i. get_or q.tokens i (pos 0)) 8) (q.count ∷ [])
     ∙ rw (each_long token_bytes 4 token_long (λ i. get_or q.tokens i (pos 0)) 8)
 
--- what is stored over as many bytes, or fewer, is all of them
+-- a text that is stored over as many bytes, or fewer, is all of them
 pub all_stored : (bytes text : List ℕ) {left : List ℕ} (n : ℕ) → length bytes ≤ n → left ≡ text ++ drop n bytes → left ≡ text
 all_stored bytes text n h q = q ∙ rw (drop_of_length-le bytes h, append-nil)
 
@@ -106,7 +106,7 @@ state_long s =
       each_long queue_bytes 33 queue_long,
     ) refl
 
--- where its marks end
+-- where a state's pending bytes end
 pub end_pending :
     (s : State) {i j k : ℕ} {a b c d : List ℕ} → length s.nodes ≡ 64 → length s.pending ≡ 96
     → Put (number_bytes s.cycles) 0 a b i → Put (flat_map node_bytes s.nodes) i b c j → Put s.pending j c d k

@@ -1,3 +1,4 @@
+-- `node::kinds_of`: the kinds of the nodes below n are read.
 use Rattle.node.specs.Kinds.{KindsBelow}
 use Rattle.node.proofs.kinds_of.Given as goal
 

@@ -10,11 +10,11 @@ use Rattle.pearl.specs.declared.Kind.TheVariants.{Count}
 use Rattle.pearl.specs.Kind.{kind_byte}
 use Rattle.node.specs.Kinds.{KindsBelow}
 
--- none is read
+-- an array of the first kind throughout holds the kinds of the nodes below 0
 pub kinds_none : (img : List ℕ) → KindsBelow img 0 (replicate 64 Count)
 kinds_none img = record { long = refl; each = λ k l. absurd (omega arith); others = λ k l. replicate_rest 64 k Count }
 
--- one more node's kind is read
+-- writing the kind of node n carries an array of the kinds below n on to n + 1
 pub kinds_more :
     (img : List ℕ) (n : ℕ) (kinds : List Kind) (x : Kind) → n < 64 → KindsBelow img n kinds → kind_byte x ≡ kind img n
     → KindsBelow img (suc n) (set kinds n x)

@@ -22,7 +22,7 @@ feeds_same : (img other : List ℕ) → Alike img other → (n p c : ℕ) → c 
 unfolding feeds
 feeds_same img other a n p c l = rw ((a.wires c l).1, (a.wires c l).2)
 
--- only the wires count, and of these only what the channels to the node bring
+-- the value on a node's port depends on the wires and on what the channels to the node bring, and on no more
 port_same :
     (img other : List ℕ) → Alike img other → (f g : ℕ → ℤ) (n p : ℕ)
     → ((c : ℕ) → c < channels img → to img c ≡ n → f c ≡ g c) → port_value img f n p ≡ port_value other g n p

@@ -19,7 +19,7 @@ halve_down (negsuc n) =
     (λ (h : 1 ≤ n % 2). inl (ap negsuc (omega arith)))
     (lt-or-ge (n % 2) 1)
 
--- a number that is no kind has no result
+-- a number that is no kind has 0 in the table of cores
 pub exact_none : (k : ℕ) → outside 1 9 k ≡ true → (s a b c : ℤ) → exact k s a b c ≡ pos 0
 unfolding exact
 exact_none k e s a b c =
@@ -40,7 +40,7 @@ exact_none k e s a b c =
     ))
     (lt-or-ge k 1)
 
--- the library's greater of two is the one here
+-- the greater of two numbers is what the library's `int_max` says
 pub larger-int_max : (a b : ℤ) → int_max a b ≡ larger a b
 unfolding larger
 larger-int_max a b = grind (arith, ints, clamps)

@@ -10,7 +10,7 @@ use Rattle.laws.specs.Signed.{signed}
 use Rattle.laws.specs.Laws.Signed.{sub_below, sub_above, signed_low, signed_high}
 use Rattle.pearl.specs.Wrap.{wrap}
 
--- a number in the range stays
+-- a number that fits 32 bits is wrapped to itself
 pub wrap-fits : (z : ℤ) → SFits w32 z → wrap z ≡ z
 unfolding wrap
 wrap-fits (pos n) f =
@@ -22,7 +22,7 @@ wrap-fits (negsuc n) f =
     let m : n % 2 ^ 32 ≡ n = omega arith in
     rw m (signed_high (2 ^ 32 - suc n) (omega arith) ∙ ap negsuc (omega arith))
 
--- one above it comes down by 2 ^ 32, and one below it goes up by 2 ^ 32
+-- a number above the range of 32 bits is wrapped to 2 ^ 32 less, and one below it to 2 ^ 32 more, unless it lies further off
 pub wrap_above : (z : ℤ) → mag z < 2 ^ 32 → lt_z (pos 2147483647) z ≡ true → SFits w32 (z -ℤ pos 4294967296) × (z -ℤ pos 4294967296 ≡ wrap z)
 unfolding wrap
 wrap_above (pos n) h g =
@@ -40,12 +40,12 @@ wrap_below (negsuc n) h g =
     let m : n % 2 ^ 32 ≡ n = omega arith in
     rw (sub_above 4294967296 (suc n) h) (record { sfits = omega arith }, rw m (sym (signed_low (4294967296 - suc n) (omega arith))))
 
--- what is neither above nor below is in the range
+-- a number that is neither above nor below the range of 32 bits fits 32 bits
 pub within : (z : ℤ) → lt_z (pos 2147483647) z ≡ false → lt_z z (negsuc 2147483647) ≡ false → SFits w32 z
 within (pos n) g k = record { sfits = let l : n ≤ 2147483647 = ltb-false _ _ g in omega arith }
 within (negsuc n) g k = record { sfits = let l : n ≤ 2147483647 = ltb-false _ _ k in omega arith }
 
--- the library's words for what is left of a sum, a difference and a negated number in 32 bits
+-- what the library says is left of a sum, of a difference and of a negated number in 32 bits is what `wrap` says
 wrap-int_wrap : (z : ℤ) → int_wrap w32 z ≡ wrap z
 unfolding int_wrap wrap signed
 wrap-int_wrap (pos n) = refl
@@ -62,5 +62,5 @@ wrapping_difference a b f g = wrapping_sub_is w32 a b f g ∙ wrap-int_wrap (a -
 pub wrapping_negation : (a : ℤ) → SFits w32 a → int_wrapping_neg w32 a ≡ wrap (pos 0 -ℤ a)
 wrapping_negation a f = wrapping_neg_is w32 a f ∙ wrap-int_wrap (neg_ℤ a) ∙ ap wrap (sym (+ℤ_idl (neg_ℤ a)))
 
--- and a number in the range and these three, for the check to look among
+-- the laws of `wrap` among which a check looks: a number that fits 32 bits, and the library's three
 pub ruleset wrapped = (wrap-fits, wrapping_sum, wrapping_difference, wrapping_negation)

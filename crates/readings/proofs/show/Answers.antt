@@ -21,7 +21,7 @@ use Rattle.cycle.specs.Loops.Turns.{written, source_read, full-read, arriving-re
 use Rattle.readings.proofs.show.Goals.{After-wire-wire, In-loop-c, then-length-gt0, else-length-gt0}
 use Rattle.readings.proofs.show.Goals as goal
 
--- channel c is one of the image's, and its fields are indices
+-- channel c is one of the image's, and the fields of its wire are indices
 there : (c : In-loop-c) → c.loop-c.c < channels c.args.netlist.image.now
 there c = omega (arith, c.channels-channels.ensures.value)
 

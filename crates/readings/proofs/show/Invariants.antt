@@ -1,3 +1,4 @@
+-- `readings::show`: the letters and values of the channels below c are written.
 use mathlib.Core.Path.{◌≡◌}
 use Prim.Native.Nat.{◌≤◌}
 use Rattle.laws.specs.Table.{table_over}

@@ -25,7 +25,7 @@ number_positive Row = omega arith
 number_positive Misfit = omega arith
 number_positive Cycles = omega arith
 
--- the refusal of a number
+-- the refusal that has a number, where one has it
 named : ℕ → Refusal
 named n =
     cond (eqb n 1) Short (cond (eqb n 2) Sizes (cond (eqb n 3) Length (cond (eqb n 4) Kind (cond (eqb n 5) Wire (cond (eqb n 6) Port (cond (eqb n 7) FedTwice (cond (eqb n 8) NotFed (cond (eqb n 9) Stations (cond (eqb n 10) Depth (cond (eqb n 11) Total (cond (eqb n 12) Stall (cond (eqb n 13) Room (cond (eqb n 14) Limit (cond (eqb n 15) Row (cond (eqb n 21) Misfit Cycles)))))))))))))))

@@ -12,7 +12,7 @@ pub token_few : (link : Link) → length (token link) ≤ 1
 token_few None = omega arith
 token_few (Some x) = omega arith
 
--- and there is no more to tell of it
+-- a link is what its token says: there is no more to tell of it
 pub link_own : (link : Link) → link ≡ link_of (token link)
 link_own None = refl
 link_own (Some x) = refl
@@ -27,13 +27,13 @@ pub token_of : (place : List ℤ) → token (link_of place) ≡ take 1 place
 token_of [] = refl
 token_of (x ∷ xs) = refl
 
--- the same from a record's places: n of them hold a token
+-- the link that leaves n tokens at the front of an array shows the first element
 pub link_take : (n : ℕ) (l : List ℤ) → 0 < n → 0 < length l → link_of (take n l) ≡ Some (get_or l 0 (pos 0))
 link_take zero l h k = absurd (not-suc-le-zero h)
 link_take (suc n) [] h k = absurd (not-suc-le-zero k)
 link_take (suc n) (x ∷ l) h k = refl
 
--- what stands behind the oldest token is not shown
+-- what stands behind the oldest token of a place is not shown
 pub link_first : (xs ys : List ℤ) → is_some (link_of xs) ≡ true → link_of (xs ++ ys) ≡ link_of xs
 link_first [] ys e = absurd (false≢true e)
 link_first (x ∷ xs) ys e = refl
@@ -54,7 +54,7 @@ pub take_few : (place : List ℤ) → length (take 1 place) ≤ 1
 take_few [] = omega arith
 take_few (x ∷ place) = omega arith
 
--- what passes and what stays is what was there
+-- what passes on a link, and what stays, is what was there
 pub passing-staying : (link : List ℤ) (stop : Bool) → passing link stop ++ staying link stop ≡ link
 passing-staying link true = refl
 passing-staying link false = append-nil link
@@ -74,11 +74,11 @@ pub passing-holds : (link : Link) (stop : Bool) → holds (passing (token link) 
 passing-holds None stop = passing_flag false stop (pos 0)
 passing-holds (Some x) stop = passing_flag true stop x
 
--- a reading tells no more than the token,
+-- the reading of a link tells no more than its token
 pub reading-token : (link : Link) (stop : Bool) → reading link stop ≡ reading (link_of (token link)) stop
 reading-token link stop = ap (λ (l : Link). reading l stop) (link_own link)
 
--- and the value of a letter T is what passes
+-- the value beside a letter T is the token that passes
 pub letter-passing :
     (link : List ℤ) (stop : Bool) → length link ≤ 1
     → let r = reading (link_of link) stop in one_if (eqb r.letter (code "T")) r.value ≡ passing link stop

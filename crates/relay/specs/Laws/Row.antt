@@ -32,7 +32,7 @@ row_fifo link (place ∷ row) stop =
     (sym (append_assoc (passing (take 1 place) s) (drop_if (not s) place) enters) ∙ ap (λ (t : List ℤ). t ++ enters) (hand_on place s))
     ∙ sym (append_assoc (contents row) place enters)
 
--- the same of the row from link j on
+-- FIFO law of a row from link j on: what leaves, and then what is there after the cycle, is what was there, and then what passes on link j
 pub part_fifo :
     (link : List ℤ) (row : List (List ℤ)) (stop : Bool) (j : ℕ) → j ≤ length row
     → passing (leaving link row) stop ++ contents (drop j (row_after link row stop)) ≡
@@ -43,12 +43,12 @@ part_fifo link [] stop (suc j) h = absurd (not-suc-le-zero h)
 part_fifo link (place ∷ row) stop (suc zero) h = row_fifo (take 1 place) row stop
 part_fifo link (place ∷ row) stop (suc (suc j)) h = part_fifo (take 1 place) row stop (suc j) (le_of_suc-le-suc h)
 
--- the tokens behind the one that the leaving link shows
+-- the tokens of a row and of its entering link behind the one that the leaving link shows
 unfoldable pub behind : List ℤ → List (List ℤ) → List ℤ
 behind link [] = []
 behind link (place ∷ row) = behind (take 1 place) row ++ (drop 1 place ++ link)
 
--- what the leaving link shows is the oldest of all
+-- what the leaving link shows is the oldest token of the row and of its entering link
 pub leaving-first : (link : List ℤ) (row : List (List ℤ)) → contents row ++ link ≡ leaving link row ++ behind link row
 unfolding leaving contents behind
 leaving-first link [] = sym (append-nil link)
@@ -61,7 +61,7 @@ leaving-first link (place ∷ row) =
     ∙ ap (λ (t : List ℤ). t ++ (drop 1 place ++ link)) (leaving-first first row)
     ∙ append_assoc (leaving first row) (behind first row) (drop 1 place ++ link)
 
--- how many tokens a row holds, by its places
+-- how many tokens a row holds, counted by its places
 contents_last : (row : List (List ℤ)) (place : List ℤ) → length (contents (row ++ (place ∷ []))) ≡ length (contents row) + length place
 unfolding contents
 contents_last [] place = omega arith
@@ -75,7 +75,7 @@ unfolding contents table sum_below
 contents_count f zero = refl
 contents_count f (suc n) = rw (contents_last, contents_count f n)
 
--- no place holds more than two
+-- no place of a row holds more than two tokens after a cycle, if none did before
 pub row_few :
     (link : List ℤ) (row : List (List ℤ)) (stop : Bool) → length link ≤ 1 → ((j : ℕ) → length (get_or row j []) ≤ 2)
     → (j : ℕ) → length (get_or (row_after link row stop) j []) ≤ 2
@@ -84,7 +84,7 @@ row_few link [] stop l h j = omega arith
 row_few link (place ∷ row) stop l h zero = place_few link place (stopped row stop) l (h 0)
 row_few link (place ∷ row) stop l h (suc j) = row_few (take 1 place) row stop (take_few place) (λ k. h (suc k)) j
 
--- and every unused place is 0
+-- every unused place of a row's records is 0 after a cycle, if no place held more than two tokens before
 pub row-stored :
     (link : List ℤ) (row : List (List ℤ)) (stop : Bool) → length link ≤ 1 → ((j : ℕ) → length (get_or row j []) ≤ 2)
     → (j : ℕ) → let s = station_of (get_or (row_after link row stop) j []) in Stored 2 (pos 0) s.tokens s.count
@@ -116,7 +116,7 @@ pub stopped_end : (row : List (List ℤ)) (stop : Bool) (j : ℕ) → length row
 unfolding stopped
 stopped_end row stop j h = rw (drop_of_length-le row h)
 
--- a place after the cycle
+-- place j of a row after a cycle, from the link above it and the stop below it
 pub after-at :
     (link : List ℤ) (row : List (List ℤ)) (stop : Bool) (j : ℕ) → j < length row
     → get_or (row_after link row stop) j [] ≡ place_after (link_at link row j) (get_or row j []) (stopped (drop (suc j) row) stop)

@@ -19,12 +19,12 @@ use Rattle.relay.specs.Link.{Link, token, link_of}
 use Rattle.relay.specs.Laws.Link.{link_take, token_few}
 use Rattle.relay.specs.Station.{held, station_of, place_after}
 
--- what is stored is what is held
+-- the tokens that a station was written from are those that it holds
 pub held_of : (tokens : List ℤ) → held (station_of tokens) ≡ tokens
 unfolding held station_of
 held_of tokens = take-padded 2 (pos 0) tokens
 
--- never more than two, whatever the link shows and whether it is stopped
+-- a place never holds more than two tokens after a cycle, whatever its link shows and whether it is stopped
 pub place_few : (link place : List ℤ) (stop : Bool) → length link ≤ 1 → length place ≤ 2 → length (place_after link place stop) ≤ 2
 unfolding place_after
 place_few link [] true l h = omega arith
@@ -35,7 +35,7 @@ place_few link (x ∷ y ∷ []) true l h = omega arith
 place_few link (x ∷ y ∷ []) false l h = omega arith
 place_few link (x ∷ y ∷ z ∷ place) stop l h = absurd (not-suc-le-zero {n = 0} (omega arith))
 
--- a record whose unused places are 0 holds as many as it counts, and is what its tokens write
+-- a station whose unused places are 0 holds as many tokens as it counts, and is what its tokens write
 pub held_count : (s : Station) → Stored 2 (pos 0) s.tokens s.count → length (held s) ≡ s.count
 unfolding held
 held_count s h = stored_count 2 (pos 0) s.tokens s.count h
@@ -46,7 +46,7 @@ station_own s h =
     ap₂ {C = Station} (λ (t : List ℤ) (n : ℕ). record { tokens = t; count = n })
     (stored_own 2 (pos 0) s.tokens s.count h) (sym (held_count s h))
 
--- and the other way round
+-- a station that was written from two tokens at most has 0 in its unused places
 pub station-stored : (xs : List ℤ) → length xs ≤ 2 → Stored 2 (pos 0) (station_of xs).tokens (station_of xs).count
 unfolding station_of
 station-stored xs h = stored-padded 2 (pos 0) xs h
@@ -69,7 +69,7 @@ module _ (s : Station) (long : length s.tokens ≡ 2) where
   unfolding held
   held_two h = take_all s.count s.tokens (omega arith) ∙ both
 
-  -- so its link, its stop and its next cycle are those of its tokens
+  -- the link, the stop and the next cycle of a station, by its count, are those of its tokens
   pub link_held : 0 < s.count → link_of (held s) ≡ Some (get_or s.tokens 0 (pos 0))
   unfolding held
   link_held h = link_take s.count s.tokens h (omega arith)
@@ -92,7 +92,7 @@ module _ (s : Station) (long : length s.tokens ≡ 2) where
       let q : s.count ≡ 1 = eqb-true s.count 1 (and_left (eqb s.count 1) stop e) in
       rw (held_one q, and_right (eqb s.count 1) stop e)
 
-  -- one that is not full, and keeps no token, holds what passes
+  -- a station that is not full, and keeps no token, holds what passes
   pub after_clear : (link : List ℤ) (stop : Bool) → s.count < 2 → eqb s.count 1 && stop ≡ false → place_after link (held s) stop ≡ link
   unfolding place_after
   after_clear link stop l e =
@@ -105,7 +105,7 @@ module _ (s : Station) (long : length s.tokens ≡ 2) where
       nothing true = refl
       nothing false = refl
 
-  -- whatever stood in it, after a cycle it has two tokens at most, and 0 in every place that holds none
+  -- whatever stood in a station, after a cycle it has two tokens at most, and 0 in every place that holds none
   pub after-stored :
       (link : Link) (stop : Bool)
       → let after = station_of (place_after (token link) (held s) stop) in Stored 2 (pos 0) after.tokens after.count

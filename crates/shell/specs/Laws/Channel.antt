@@ -31,7 +31,7 @@ unfolding full
 still_ready depth [] link h e = rw (lt-leb depth 0 h) (valid_holds link e)
 still_ready depth (x ∷ queue) link h e = refl
 
--- what stays at a node that fires is nothing
+-- no token stays at a from node that is not blocked
 cleared : (source : List ℤ) (stop : Bool) → blocked (holds source) stop ≡ false → staying source stop ≡ []
 unfolding blocked
 cleared source false e = refl
@@ -78,7 +78,7 @@ module _ (depth : ℕ) (ch : Channel) (to from : Bool) (value : ℤ) where
       (row_fifo ch.source ch.row stop) (passing-staying ch.source above))
       ∙ drop_if-append (tokens ch) new to (λ e. valid_holds (tokens ch) (ap (λ (l : Link). is_some l) (oldest_first ch (ready e)) ∙ ready e))
 
--- what the from node shows as pending, after the cycle
+-- the token that is pending after a cycle, from the one that was and the value that the from node then shows
 pub source_after :
     (pending stop fires : Bool) (old new : ℤ)
     → one_if (pending_after pending stop fires) (new if fires else old) ≡ ((new ∷ []) if fires else staying (one_if pending old) stop)

@@ -12,12 +12,12 @@ use Rattle.relay.specs.Laws.Link.{link_take, link_first}
 use Rattle.shell.specs.declared.Queue.{Queue}
 use Rattle.shell.specs.Queue.{waiting, queue_of, pushed, popped, queue_after}
 
--- what is stored is what is held
+-- the tokens that a queue was written from are those that it holds
 pub waiting_of : (xs : List ℤ) → waiting (queue_of xs) ≡ xs
 unfolding waiting queue_of
 waiting_of xs = take-padded 8 (pos 0) xs
 
--- a record whose unused places are 0 holds as many as it counts, and is what its tokens write
+-- a queue whose unused places are 0 holds as many tokens as it counts, and is what its tokens write
 pub waiting_count : (q : Queue) → Stored 8 (pos 0) q.tokens q.count → length (waiting q) ≡ q.count
 unfolding waiting
 waiting_count q h = stored_count 8 (pos 0) q.tokens q.count h
@@ -28,7 +28,7 @@ queue_own q h =
     ap₂ {C = Queue} (λ (t : List ℤ) (n : ℕ). record { tokens = t; count = n })
     (stored_own 8 (pos 0) q.tokens q.count h) (sym (waiting_count q h))
 
--- and the other way round: after a cycle too, by `after_of`
+-- a queue that was written from eight tokens at most has 0 in its unused places; by `after_of` it is so after a cycle too
 pub queue_stored : (xs : List ℤ) → length xs ≤ 8 → Stored 8 (pos 0) (queue_of xs).tokens (queue_of xs).count
 unfolding queue_of
 queue_stored xs h = stored-padded 8 (pos 0) xs h
@@ -43,14 +43,14 @@ push_of xs (x ∷ []) l h =
     rw (lt-ltb (length xs) 8 k, padded-set 8 (pos 0) xs x k, n)
 push_of xs (x ∷ y ∷ arriving) l h = absurd (not-suc-le-zero {n = 0} (omega arith))
 
--- pop: the first is gone
+-- pop: the first token is gone
 pub pop_of : (x : ℤ) (xs : List ℤ) → length xs < 8 → popped (queue_of (x ∷ xs)) ≡ queue_of xs
 unfolding popped queue_of
 pop_of x xs h =
     let n : suc (length xs) - 1 ≡ length xs = omega arith in
     rw (padded-drop 8 (pos 0) x xs h, n)
 
--- a cycle: what arrives is the last, and what is taken is the first of all
+-- a cycle of a queue: what arrives is the last, and what is taken is the first of all
 bypass : (arriving : List ℤ) → length arriving ≤ 1 → queue_after (queue_of []) arriving true ≡ queue_of (drop 1 arriving)
 unfolding queue_after queue_of
 bypass arriving l = rw (drop_of_length-le arriving l)
@@ -69,7 +69,7 @@ after_of (x ∷ xs) arriving true l h =
     taken x xs arriving ∙ ap (λ (q : Queue). pushed q arriving) (pop_of x xs (omega arith)) ∙ push_of xs arriving l (omega arith)
 
 -- ---- the code's steps
--- all tokens a place nearer to the front, and 0 behind them
+-- pop, as the code works it: all tokens a place nearer to the front, and 0 behind them
 pub popped_is :
     (q : Queue) → length q.tokens ≡ 8
     → record { tokens = set (copy_within q.tokens 1 (length q.tokens) 0) 7 (pos 0); count = q.count - 1 } ≡ popped q

@@ -23,7 +23,7 @@ use Rattle.state.specs.State.{no_node, node_at, firings_at, channel_in, state_of
 use Rattle.state.specs.Laws.State.{node_of, channel_of}
 use Rattle.state.specs.Fresh.{fresh_node, fresh_channel, fresh_state, zeros, fresh_answer}
 
--- ---- what it is written from
+-- ---- what the fresh state is written from
 pub fresh-cycles : (img : List ℕ) → (fresh_state img).cycles ≡ 0
 unfolding fresh_state state_of
 fresh-cycles img = refl
@@ -35,7 +35,7 @@ fresh_node_lem img n h = node_of img 0 _ _ n h
 pub fresh_firings : (img : List ℕ) (n : ℕ) → n < nodes img → firings_at (fresh_state img) n ≡ 0
 fresh_firings img n h = ap (λ (x : Node). x.firings) (fresh_node_lem img n h)
 
--- stations that hold nothing
+-- a row of stations that hold nothing holds no token
 nothing_there : (r : ℕ) → contents (replicate r []) ≡ []
 unfolding contents
 nothing_there zero = refl
@@ -46,13 +46,13 @@ module _ (img : List ℕ) (a : Accepted img) (c : ℕ) (h : c < channels img) wh
   unfolding fresh_state
   fresh-channel = channel_of img 0 _ _ c h (a.wires c h).0 (a.rows c h) (length-replicate (stations img c) _) refl
 
-  -- each channel holds one token, its from node's parameter
+  -- each channel of the fresh state holds one token, its from node's parameter
   pub fresh-tokens : tokens (channel_in img (fresh_state img) c) ≡ parameter img (from img c) ∷ []
   unfolding tokens
   fresh-tokens = ap tokens fresh-channel ∙ ap (λ l. l ++ (parameter img (from img c) ∷ [])) (nothing_there (stations img c))
 
--- ---- how it is filled
--- the first n nodes and the first c marks are set, and the rest is 0
+-- ---- how the fresh state is filled
+-- the state in which the first n nodes are filled in and the first c channels are pending, and the rest is 0
 unfoldable pub filled : List ℕ → ℕ → ℕ → State
 filled img n c =
     record {
@@ -68,7 +68,7 @@ module _ (img : List ℕ) where
   unfolding zeros filled padded table
   filled_none = refl
 
-  -- one more node, and one more mark
+  -- one more node is filled in, and one more channel is pending
   pub filled_node :
       (n c : ℕ) → n < 64 → (s : State) → s ≡ filled img n c → (v : ℤ) → v ≡ parameter img n
       → record {
@@ -89,7 +89,7 @@ module _ (img : List ℕ) where
   unfolding filled
   filled_pending n c h s e = rw (e, padded-table {A = ℕ} (λ k. 1) c 96 0 h)
 
-  -- with all of them it is the fresh state
+  -- with all nodes filled in and all channels pending it is the fresh state
   pub filled_all : Accepted img → filled img (nodes img) (channels img) ≡ fresh_state img
   unfolding filled fresh_state state_of
   filled_all a =
@@ -100,7 +100,7 @@ module _ (img : List ℕ) where
       )
 
 -- ---- what the code builds
--- zeros, from an empty station and an empty queue
+-- a state of zeros, from an empty station and an empty queue
 pub zeros_of :
     (station : Station) (queue : Queue) → station ≡ station_of [] → queue ≡ queue_of []
     → record { cycles = 0; nodes = replicate 64 no_node; pending = replicate 96 0; stations = replicate 768 station; queues = replicate 96 queue }
@@ -108,7 +108,7 @@ pub zeros_of :
 unfolding zeros
 zeros_of station queue e q = rw (e, q)
 
--- the two answers, by the judge's number
+-- what a call for a fresh state answers, by the judge's number: refused, or not
 pub fresh_refused :
     (img : List ℕ) (number : ℕ) (s : State) → number ≡ judge img → s ≡ zeros → (judge img ≡ 0 → ⊥)
     → ◌≡◌ {A = Told} (record { number = number; state = s }) (fresh_answer img)

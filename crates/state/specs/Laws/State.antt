@@ -23,7 +23,7 @@ use Rattle.state.specs.declared.Node.{Node}
 use Rattle.state.specs.declared.State.{State}
 use Rattle.state.specs.State.{no_node, no_queue, node_at, value_at, pending_at, station_at, queue_at, channel_in, state_of}
 
--- the channel and the station of a place
+-- the channel and the station that stand at a place of the array of stations
 pub place_channel : (c j : ℕ) → j < 8 → (8 * c + j) / 8 ≡ c
 place_channel c j h = mul-add-div (omega arith) c j ∙ ap (λ (k : ℕ). c + k) (div-eq_of_lt h) ∙ add-zero c
 
@@ -32,7 +32,7 @@ place_station c j h = mul-add-mod_self_left 8 c j ∙ mod-eq_of_lt h
 
 -- ---- a channel of a state
 module _ (img : List ℕ) (s : State) (c : ℕ) where
-  -- its places are the image's stations: what station j holds, and past them nothing
+  -- a channel of a state has the image's stations as its row: what station j holds, and past them nothing
   pub length-row : length (channel_in img s c).row ≡ stations img c
   unfolding channel_in
   length-row = length-table _ (stations img c)
@@ -80,7 +80,7 @@ module _ (img : List ℕ) (t : ℕ) (node : ℕ → Node) (channel : ℕ → Cha
         padded-at (λ i. station_of (get_or (channel (i / 8)).row (i % 8) [])) (8 * channels img) 768 (8 * c + j) (station_of []) no_station (omega arith)
         ∙ ap₂ {C = Station} (λ (a b : ℕ). station_of (get_or (channel a).row b [])) (place_channel c j l) (place_station c j l)
 
-    -- the channel that was written, if its row has the image's stations and its source shows the node's value
+    -- a channel that was written is the one that is read, if its row has the image's stations and its source shows the node's value
     pub channel_of :
         from img c < nodes img → stations img c ≤ 8 → length (channel c).row ≡ stations img c
         → (channel c).source ≡ one_if (holds (channel c).source) (node (from img c)).value
@@ -93,7 +93,7 @@ module _ (img : List ℕ) (t : ℕ) (node : ℕ → Node) (channel : ℕ → Cha
         ∙ ap (table (λ j. get_or (channel c).row j [])) (sym long) ∙ sym (table_own (channel c).row []) in
         rw (pending_of, pending_test, ap (λ (x : Node). x.value) (node_of (from img c) wired), ← same, row, queue_of_lem, waiting_of)
 
--- states written from nodes and channels that agree
+-- states written from nodes and channels that agree are the same
 state_same :
     (img : List ℕ) (t : ℕ) (f g : ℕ → Node) (a b : ℕ → Channel)
     → ((n : ℕ) → n < nodes img → f n ≡ g n) → ((c : ℕ) → c < channels img → a c ≡ b c) → state_of img t f a ≡ state_of img t g b
@@ -108,7 +108,7 @@ state_same img t f g a b m h =
       table_same (λ c. queue_of (a c).queue) (λ c. queue_of (b c).queue) (channels img) (λ c l. ap (λ (x : Channel). queue_of x.queue) (h c l)),
     )
 
--- so a state is what its own nodes and channels write, where its channels are those that it was written from
+-- a state is what its own nodes and channels write, where its channels are those that it was written from
 pub written_of :
     (img : List ℕ) (t : ℕ) (node : ℕ → Node) (channel : ℕ → Channel) → let s = state_of img t node channel in
     ((c : ℕ) → c < channels img → channel_in img s c ≡ channel c) → s ≡ state_of img t (node_at s) (channel_in img s)

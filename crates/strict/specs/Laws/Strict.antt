@@ -14,11 +14,12 @@ unfolding strict_cycle
 length_cycle img zero = length-table (parameter img) (nodes img)
 length_cycle img (suc t) = length-table (strict_next img (strict_cycle img t)) (nodes img)
 
--- node n's value: its parameter, and then the next value from what the channels' from nodes had
+-- node n's value of cycle 0 is its parameter
 pub strict-first : (img : List ℕ) (n : ℕ) → n < nodes img → strict img n 0 ≡ parameter img n
 unfolding strict_cycle strict
 strict-first img n h = table_at (parameter img) (nodes img) n (pos 0) h
 
+-- node n's value of cycle t + 1 is its next value from what the channels' from nodes have in cycle t
 pub strict_next_lem : (img : List ℕ) (n t : ℕ) → n < nodes img → strict img n (suc t) ≡ next_of img (λ c. strict img (from img c) t) n (strict img n t)
 unfolding strict_next strict_cycle strict
 strict_next_lem img n t h = table_at (strict_next img (strict_cycle img t)) (nodes img) n (pos 0) h

@@ -1,4 +1,4 @@
--- A cycle of what was decoded is a cycle of the strict system. Assumes nothing.
+-- A cycle worked from what was decoded is a cycle of the strict system. Assumes nothing.
 use Rattle.std.specs.Prelude.{List, ◌≡◌, ℤ, ℕ, suc, ◌+◌, ◌*◌, ◌/◌, ◌%◌, ◌<◌, take}
 use Rattle.std.proofs.Common.{ap, ◌∙◌, arith, add-one}
 use Rattle.std.proofs.Math.Nat.{add-zero}
@@ -25,7 +25,7 @@ module _ (img : List ℕ) (a : Accepted img) where
   abbrev feeders : List ℕ
   feeders = feeders_below img (channels img)
 
-  -- the entry at a port's place
+  -- the feeder of port p of node n is the from node of the channel that feeds it
   feeder-at : (n p : ℕ) → n < 64 → p < 3 → get_or feeders (port_place n p) 0 ≡ pick_below (feeds img n p) (from img) 64 (channels img)
   unfolding feeders_below
   feeder-at n p h l =
@@ -33,7 +33,7 @@ module _ (img : List ℕ) (a : Accepted img) where
       let k : port_place n p < length (ports_below img (from img) 64 c) = rw ports_length (omega arith) in
       get_d_any feeders (port_place n p) 0 64 k ∙ ports_at img (from img) 64 c (accepted-wired img a) n p h l
 
-  -- is one of 65 places
+  -- each feeder names one of 65 places
   pub feeders-within : NamesPlaces feeders
   feeders-within k h =
       let e : k ≡ port_place (k / 3) (k % 3) = omega arith in
@@ -64,7 +64,7 @@ module _ (img : List ℕ) (a : Accepted img) where
         let first : port_on (values_at img t) feeders (3 * n) ≡ port_on (values_at img t) feeders (port_place n 0) = rw add-zero in
         rw (d.kinds.each n h, d.fed, value_at_lem t n, first, port-on t n 0 l (omega arith), port-on t n 1 l (omega arith), port-on t n 2 l (omega arith))
 
-    -- so all values after a cycle are the next cycle's
+    -- all values after a cycle are the next cycle's
     values-after : (t : ℕ) → values_after system (values_at img t) ≡ values_at img (suc t)
     unfolding values_after values_at strict_cycle
     values-after t =
@@ -76,11 +76,11 @@ module _ (img : List ℕ) (a : Accepted img) where
           over_padded (strict_next img vs) (nodes img) 65 (pos 0) vs (omega (arith, length_cycle img t)),
         )
 
-    -- which is a turn of the loop over the cycles
+    -- one turn of the loop over the cycles goes from one cycle's values to the next cycle's
     pub values_next : (t : ℕ) {vs : List ℤ} → vs ≡ values_at img t → values_after system vs ≡ values_at img (t + 1)
     values_next t e = rw (e, add-one t) (values-after t)
 
-  -- and the first N of them are the cycle
+  -- the first N of the 65 values are the strict system's
   pub take-values : (t : ℕ) → take (nodes img) (values_at img t) ≡ strict_cycle img t
   unfolding values_at
   take-values t = rw (← (length_cycle img t)) (take-padded 65 (pos 0) (strict_cycle img t))

@@ -19,7 +19,7 @@ tenth n k h =
     let g : n < 10 ^ suc k * 10 = rw (pow-suc 10 (suc k)) at h in
     (div-lt_iff_lt-mul ten).1 g
 
--- more places than are needed change nothing
+-- more places than a number needs change nothing
 places_enough : (f g n : ℕ) → n < 10 ^ suc f → n < 10 ^ suc g → places f n ≡ places g n
 unfolding places
 places_enough zero g n h k = sym (places_small g n h)
@@ -30,7 +30,7 @@ places_enough (suc f) (suc g) n h k =
     (λ (l : 10 ≤ n). rw (le-ltb n 10 l, places_enough f g (n / 10) (tenth n f h) (tenth n g k)))
     (lt-or-ge n 10)
 
--- the definition's places suffice
+-- the places of `decimal` are enough for every number
 powers : (q : ℕ) → suc q * 10 ^ 19 ≤ 10 ^ suc (19 + q)
 powers zero = omega arith
 powers (suc q) = rw (add-suc 19 q, pow-suc 10 (suc (19 + q))) (omega (arith, powers q))
@@ -65,13 +65,14 @@ decimal_short (suc k) n h =
     (λ (l : 10 ≤ n). rw (length-step n l) (omega (arith, decimal_short k (n / 10) (tenth n k h))))
     (lt-or-ge n 10)
 
--- the fewest digits that hold a number are its decimal
+-- the library's digit is the definition's
 glyph_digit : (n : ℕ) → hex_digit_ascii (n % 10) ≡ digit n
 glyph_digit n = rw (lt-ltb (n % 10) 10 (omega arith))
 
 one_less : (k : ℕ) → suc k - 1 ≡ k
 one_less k = omega arith
 
+-- the fewest digits that hold a number are its decimal
 pub digits_decimal : (k n : ℕ) → IsDigitCount 10 1 n k → last_digits 10 k n ≡ decimal n
 digits_decimal zero n h = absurd (not-suc-le-zero h.0)
 digits_decimal (suc zero) n h = rw (glyph_digit n, decimal_small n h.1)
@@ -81,7 +82,7 @@ digits_decimal (suc (suc k)) n h =
     let rest : IsDigitCount 10 1 (n / 10) (suc k) = (omega arith, tenth n k h.1, λ l. rw (one_less k) (omega arith)) in
     rw (decimal_step n (omega arith), digits_decimal (suc k) (n / 10) rest, glyph_digit n)
 
--- so many digits a number has
+-- the decimal of a number of k digits has k bytes
 pub decimal_long : (k n : ℕ) → IsDigitCount 10 1 n k → length (decimal n) ≡ k
 decimal_long zero n h = absurd (not-suc-le-zero h.0)
 decimal_long (suc zero) n h = length_small n h.1
@@ -108,7 +109,7 @@ unfolding signed_text
 signed_short (pos n) h = let e = decimal_short 9 n (omega arith) in omega arith
 signed_short (negsuc n) h = let e = decimal_short 9 (suc n) (omega arith) in omega arith
 
--- and by the logarithm, which 0 has not
+-- the decimal of a number is one longer than its logarithm, which 0 has not
 pub decimal_log :
     (log : Option ℕ) (n : ℕ) {k : ℕ}
     → IfNone log (n ≡ 0) → IfSome log (λ j. 10 ^ j ≤ n) → IfSome log (λ j. n < 10 * 10 ^ j) → k ≡ unwrap_or log 0 → k + 1 ≡ length (decimal n)

@@ -3,8 +3,8 @@ use Rattle.std.specs.Prelude.{List, [], ◌∷◌, ◌++◌, ◌≡◌, ℕ, ◌
 use Rattle.std.proofs.Common.{arith}
 use Rattle.std.proofs.Math.ListN.{length, length-append}
 use Rattle.refusal.specs.declared.Refusal.TheVariants.{Room}
-use Rattle.writer.specs.Loops.Put.{Put}
-use Rattle.writer.specs.Loops.PutLaws.{put_one, put-after}
+use Rattle.writer.specs.Put.{Put}
+use Rattle.writer.specs.Laws.Put.{put_one, put-after}
 use Rattle.writer.specs.Write.{WriteDone}
 use Rattle.writer.specs.Laws.Write.{write_none, write_made}
 use Rattle.text.specs.Ascii.{ascii}
@@ -14,7 +14,7 @@ module _ (first rest out : List ℕ) where
   unfolding ascii
   length_line = simp length-append (omega arith)
 
-  -- the two parts leave nothing
+  -- a line whose two parts leave no room for its line feed is refused
   pub line_none : length out - length first - length rest ≡ 0 → WriteDone (first ++ (rest ++ ascii "\n")) out (Err Room) out
   line_none e = write_none (first ++ (rest ++ ascii "\n")) out (omega (arith, e, length_line))
 

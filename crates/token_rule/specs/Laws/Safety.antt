@@ -29,13 +29,13 @@ use Rattle.state.specs.Laws.Fresh.{fresh_node_lem, fresh_firings, fresh-tokens}
 use Rattle.cycle.specs.Laws.Kept.{steady-next}
 use Rattle.token_rule.specs.Safety.{Sound}
 
--- the first of a stretch, where a link shows it
+-- a link that shows the first token of a stretch from a on shows f a
 shown_first : (f : ℕ → ℤ) (a : ℕ) (xs : List ℤ) → is_some (link_of xs) ≡ true → Stretch f a xs → unwrap_or (link_of xs) (pos 0) ≡ f a
 unfolding Stretch
 shown_first f a [] e s = absurd (false≢true e)
 shown_first f a (x ∷ xs) e s = s.0
 
--- the new value where the node fires, and the old one where it does not
+-- a node that shows f k shows f (k + 1) after it fires, if its new value is that, and f k if it does not fire
 settle : (b : Bool) (f : ℕ → ℤ) (k : ℕ) (new old : ℤ) → (b ≡ true → new ≡ f (suc k)) → old ≡ f k → (new if b else old) ≡ f (k + (1 if b else 0))
 settle true f k new old p q = rw add-one (p refl)
 settle false f k new old p q = rw add-zero q
@@ -51,7 +51,7 @@ module _ (img : List ℕ) (a : Accepted img) where
       }
 
   module _ (w : ℕ) (s : State) (steady : Steady img s) (ok : Sound img s) where
-    -- an input that is ready shows the strict value that its node needs,
+    -- an input that is ready shows the strict value that its node needs
     input-token : (c : ℕ) → c < channels img → is_some (input_at img s c) ≡ true → unwrap_or (input_at img s c) (pos 0) ≡ stream img c (firings_at s (to img c))
     unfolding input_at
     input-token c h e =
@@ -59,7 +59,7 @@ module _ (img : List ℕ) (a : Accepted img) where
         sym (ap (λ (l : Link). unwrap_or l (pos 0)) same)
         ∙ shown_first (stream img c) (firings_at s (to img c)) (tokens (channel_in img s c)) (ap (λ (l : Link). is_some l) same ∙ e) (ok.streamed c h)
 
-    -- so a node that fires takes its strict value of the next cycle,
+    -- a node that fires takes its strict value of the next cycle
     new_value :
         (n : ℕ) → n < nodes img → fires img w s n ≡ true
         → next_of img (λ c. unwrap_or (input_at img s c) (pos 0)) n (value_at s n) ≡ strict img n (suc (firings_at s n))
@@ -75,7 +75,7 @@ module _ (img : List ℕ) (a : Accepted img) where
         rw (value_next img a w s n h, firings_next img a w s n h)
         (settle (fires img w s n) (strict img n) (firings_at s n) _ _ (new_value n h) (ok.valued n h))
 
-    -- and the token that it sends is the next of the stream
+    -- the token that a firing node sends is the next of its channel's stream
     module _ (c : ℕ) (h : c < channels img) where
       sends_next :
           fires img w s (from img c) ≡ true

@@ -15,7 +15,7 @@ use Rattle.verdict.specs.Laws.Head.{head_judges}
 use Rattle.trace_input.specs.Input.{image_due, image_of, any_above, number_from, input_number}
 use Rattle.trace_input.specs.Laws.Input.{image_sizes, number-clear}
 
--- of two stretches from the front the order does not count
+-- two stretches taken from the front of a list may be taken in either order
 take_both : (a b : ℕ) (l : List ℕ) → take a (take b l) ≡ take b (take a l)
 take_both a b l =
     ⊎_elim
@@ -39,7 +39,7 @@ unlooked judged tail a b h =
     (true_or_false (eqb judged 0))
 
 module _ (input : List ℕ) (k : ℕ) (h : 33570 ≤ k) where
-  -- N and C, and so the image's number, are those of the whole
+  -- an input's first k bytes, 33,570 or more, have the N and C of the whole input
   head_due : image_due (take k input) ≡ image_due input
   unfolding image_due nodes channels
   head_due = rw (get_or-take k input 0 0 (omega arith), get_or-take k input 1 0 (omega arith))
@@ -48,7 +48,7 @@ module _ (input : List ℕ) (k : ℕ) (h : 33570 ≤ k) where
   unfolding image_of
   head_judged = rw head_due (ap judge (take_both (image_due input) k input) ∙ head_judges (take (image_due input) input) k (omega arith))
 
-  -- a sound image leaves too much
+  -- an input longer than k, 33,570 or more, with a sound image and whole words behind it, has over 4,096 of them
   head_long :
       k < length input → judge (image_of input) ≡ 0 → (length input - image_due input) % 8 ≡ 0 → 4096 < (length input - image_due input) / 8
   unfolding image_due
@@ -67,7 +67,7 @@ module _ (input : List ℕ) (k : ℕ) (h : 33570 ≤ k) where
       (λ (l : length input ≤ k). ap (λ i. input_number i (length input)) (take_all k input l))
       (lt-or-ge k (length input))
 
--- one that is not refused was kept whole
+-- an input that is not refused was kept whole
 pub head_whole : (head : List ℕ) (size : ℕ) → length head ≡ min size 33570 → input_number head size ≡ 0 → size ≡ length head
 unfolding image_due
 head_whole head size l e =

@@ -24,21 +24,21 @@ use Rattle.trace_input.specs.Input.{image_due, image_of, word_at, word_count, wo
 
 -- ---- the image
 module _ (input : List ℕ) where
-  -- it is as long as is due, or as the input
+  -- the image of an input is as long as is due, or as the input
   pub image_length : length (image_of input) ≡ min (image_due input) (length input)
   unfolding image_of
   image_length = length-take (image_due input) input
 
-  -- and is the input's first bytes
+  -- the image of an input is the input's first bytes
   pub image_taken : take (length (image_of input)) input ≡ image_of input
   unfolding image_of
   image_taken = rw length-take (sym (take_min (image_due input) input))
 
-  -- a count of so many bytes
+  -- a number of bytes, as many as are due or as the input has, counts the image
   pub image_counts : (n : ℕ) → n ≡ min (image_due input) (length input) → (n ≡ length (image_of input)) × IsPrefixLen n input
   image_counts n e = let h : n ≤ length input = omega arith in (e ∙ sym image_length, (h, sym (length-take-le n input h)))
 
-  -- its N and C are the input's
+  -- the image of an input has the input's N and C
   pub image_sizes : (nodes (image_of input) ≡ nodes input) × (channels (image_of input) ≡ channels input)
   unfolding image_of image_due nodes channels
   image_sizes = (get_or-take (image_due input) input 0 0 (omega arith), get_or-take (image_due input) input 1 0 (omega arith))
@@ -55,10 +55,11 @@ length_chunks : {A : Type 0} (n k : ℕ) (xs : List A) → length (first_chunks 
 length_chunks n zero xs = refl
 length_chunks n (suc k) xs = ap suc (length_chunks n k (drop n xs))
 
--- eight bytes as one number
+-- byte i of the eight bytes from a place on
 chunk_byte : (input : List ℕ) (at i : ℕ) → i < 8 → get_or (take 8 (drop at input)) i 0 ≡ get_or input (at + i) 0
 chunk_byte input at i h = get_or-take 8 (drop at input) i 0 h ∙ get_or-drop at input i 0
 
+-- the eight bytes from a place on as one number
 chunk_word : (input : List ℕ) (at : ℕ) → from_le_bytes w64 (take 8 (drop at input)) ≡ four_bytes input at + 2 ^ 32 * four_bytes input (at + 4)
 chunk_word input at =
     let b = chunk_byte input at in
@@ -83,7 +84,7 @@ chunk_word input at =
     (omega arith)
 
 module _ (input : List ℕ) where
-  -- what follows the image, in whole words
+  -- what follows the image, counted in whole words
   pub tail_words : (length input - length (image_of input)) / 8 ≡ word_count input
   unfolding word_count
   tail_words =
@@ -101,7 +102,7 @@ module _ (input : List ℕ) where
   pub word_past : (k : ℕ) → word_count input ≤ k → get_or (words_of input) k 0 ≡ 0
   word_past k h = get_or-eq_default (words_of input) 0 (rw length-words h)
 
-  -- as the code reads it
+  -- word k of an input, as the code reads it
   pub word_read :
       (k : ℕ) → from_le_bytes w64 (get_or (first_chunks 8 (word_count input) (drop (length (image_of input)) input)) k (replicate 8 0)) ≡ get_or (words_of input) k 0
   unfolding word_at word_count
@@ -115,13 +116,13 @@ module _ (input : List ℕ) where
       rw (word_past k h, none))
       (lt-or-ge k (word_count input))
 
--- as the code looks at them
+-- whether some word sets a bit at or above N, as the code looks at them
 pub above_read : (input : List ℕ) → any_below (λ k. sets_above (nodes input) (get_or (words_of input) k 0)) (word_count input) ≡ any_above input
 above_read input =
     any_same (λ k. sets_above (nodes input) (get_or (words_of input) k 0)) (above_at input) (word_count input) (λ k h. rw (word_there input k h))
 
 -- ---- the number
--- an answer 0: no test holds
+-- where an input's number is 0 no test holds
 never : (k : ℕ) (early ragged : Bool) → (suc k if early else 3 if ragged else suc k) ≡ 0 → ⊥
 never k true ragged e = omega arith
 never k false true e = omega arith
@@ -150,23 +151,23 @@ module _ (input : List ℕ) (e : input_number input (length input) ≡ 0) where
       × (any_above input ≡ false)
   none = number-clear input (length input) e
 
-  -- its image is accepted,
+  -- an input whose number is 0 has an accepted image
   pub input-accepted : judge (image_of input) ≡ 0
   input-accepted = none.0
 
-  -- nothing is missing from it or left over,
+  -- an input whose number is 0 is its image and whole words, with nothing missing or left over
   pub input-whole : length input ≡ length (image_of input) + 8 * length (words_of input)
   unfolding image_due word_count
   input-whole =
       let whole = (accepted (image_of input) input-accepted).whole in
       rw (length-words input) (omega (arith, whole, image_sizes input, image_length input, none.1))
 
-  -- its words are few,
+  -- an input whose number is 0 has at most 4,096 words
   pub words_few : length (words_of input) ≤ 4096
   unfolding word_count
   words_few = rw (length-words input) none.2
 
-  -- and none of them sets a bit at or above N
+  -- no word of an input whose number is 0 sets a bit at or above N
   pub words_below : (k : ℕ) → k < length (words_of input) → sets_above (nodes (image_of input)) (get_or (words_of input) k 0) ≡ false
   words_below k h =
       let l : k < word_count input = rw (length-words input) at h in

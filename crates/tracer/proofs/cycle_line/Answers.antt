@@ -10,7 +10,7 @@ use Rattle.refusal.specs.Laws.Number.{number_positive}
 use Rattle.text.specs.Lines.{line_text}
 use Rattle.tracer.specs.Trace.{cycle_text}
 use Rattle.tracer.specs.Laws.Done.{step-number, step-accepted, step-state, step_text, step_refused, line_refused, line_long, line_written}
-use Rattle.tracer.proofs.cycle_line.Goals.{After-readings-row}
+use Rattle.tracer.proofs.cycle_line.Goals.{After-readings-shown}
 use Rattle.tracer.proofs.cycle_line.Goals as goal
 
 pub returns-in-Err-clause-line_done : goal.returns-in-Err-clause-line_done
@@ -26,33 +26,33 @@ pub returns-in-Err-clause-number_value : goal.returns-in-Err-clause-number_value
 returns-in-Err-clause-number_value c = λ h. step-number c.in-Err.ensures refl refl
 
 -- a reading for each channel
-long : (c : After-readings-row) → length c.readings-row.result ≡ 96
-long c = ap length c.readings-row.ensures ∙ length-table _ 96
+long : (c : After-readings-shown) → length c.readings-shown.result ≡ 96
+long c = ap length c.readings-shown.ensures ∙ length-table _ 96
 
-enough : (c : After-readings-row) → c.channels-channels.result ≤ length c.readings-row.result
+enough : (c : After-readings-shown) → c.channels-channels.result ≤ length c.readings-shown.result
 enough c =
     let h = (step-accepted c.in-Ok.ensures refl refl refl).1 in
     omega (arith, h, c.channels-channels.ensures, long c)
 
-few : (c : After-readings-row) → length (take c.channels-channels.result c.readings-row.result) ≤ 96
-few c = omega (arith, length-take-le c.channels-channels.result c.readings-row.result (enough c), enough c, long c)
+few : (c : After-readings-shown) → length (take c.channels-channels.result c.readings-shown.result) ≤ 96
+few c = omega (arith, length-take-le c.channels-channels.result c.readings-shown.result (enough c), enough c, long c)
 
 -- what is written is the cycle's line
 shown :
-    (c : After-readings-row) → line_text c.args.state.cycles (take c.channels-channels.result c.readings-row.result) ≡ cycle_text c.args.image.now c.args.state
-shown c = rw c.channels-channels.ensures (step_text c.in-Ok.ensures refl refl refl c.readings-row.ensures)
+    (c : After-readings-shown) → line_text c.args.state.cycles (take c.channels-channels.result c.readings-shown.result) ≡ cycle_text c.args.image.now c.args.state
+shown c = rw c.channels-channels.ensures (step_text c.in-Ok.ensures refl refl refl c.readings-shown.ensures)
 
-pub slice_bounds-row-end : goal.slice_bounds-row-end
-slice_bounds-row-end c = enough (goal.at.slice_bounds-row-end c).After-readings-row
+pub slice_bounds-shown-end : goal.slice_bounds-shown-end
+slice_bounds-shown-end c = enough (goal.at.slice_bounds-shown-end c).After-readings-shown
 
 pub slice_bounds-cycle_line-end : goal.slice_bounds-cycle_line-end
 slice_bounds-cycle_line-end c =
-    sym (length-take-le c.channels-channels.result c.readings-row.result (enough (goal.at.slice_bounds-cycle_line-end c).After-readings-row))
+    sym (length-take-le c.channels-channels.result c.readings-shown.result (enough (goal.at.slice_bounds-cycle_line-end c).After-readings-shown))
 
 pub returns-in-Ok-cycle_line-clause-line_done : goal.returns-in-Ok-cycle_line-clause-line_done
 returns-in-Ok-cycle_line-clause-line_done c =
     let a = c.args in
-    let k = (goal.at.returns-in-Ok-cycle_line-clause-line_done c).After-readings-row in
+    let k = (goal.at.returns-in-Ok-cycle_line-clause-line_done c).After-readings-shown in
     let d = c.in-Ok.ensures in
     line_written a.image.now a.state a.word a.out.now (step-number d refl refl) (shown k) c.in-Ok-cycle_line.ensures.write_done (step-state d refl refl refl)
 
@@ -62,5 +62,5 @@ returns-in-Ok-cycle_line-clause-number_value c = λ h. step-number c.in-Ok.ensur
 pub returns-in-Err-cycle_line-clause-line_done : goal.returns-in-Err-cycle_line-clause-line_done
 returns-in-Err-cycle_line-clause-line_done c =
     let a = c.args in
-    let k = (goal.at.returns-in-Err-cycle_line-clause-line_done c).After-readings-row in
+    let k = (goal.at.returns-in-Err-cycle_line-clause-line_done c).After-readings-shown in
     line_long a.image.now a.state a.word a.out.now (step-number c.in-Ok.ensures refl refl) (shown k) c.in-Err-cycle_line.ensures.write_done

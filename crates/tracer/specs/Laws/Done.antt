@@ -18,10 +18,9 @@ use Rattle.state.specs.declared.State.{State}
 use Rattle.state.specs.State.{firings_at}
 use Rattle.cycle.specs.Cycle.{reading_at, state_after, letters_of, values_of}
 use Rattle.state.specs.Told.{Told}
-use Rattle.engine.specs.Answer.{step_number, number_of_step, step_answer, letters_written, values_written}
+use Rattle.engine.specs.Answer.{step_number, number_of_step, step_answer, letters_written, values_written, state_number}
 use Rattle.engine.specs.Laws.Answer.{number_ok, state_ok}
 use Rattle.engine.specs.Done.{StepDone}
-use Rattle.engine.specs.Loops.Taken.{state_number}
 use Rattle.text.specs.Lines.{line_text, closing_text, reading_in}
 use Rattle.writer.specs.Write.{written_answer, WriteDone, WriteTold, write_told}
 use Rattle.writer.specs.Laws.Write.{told_ok}
@@ -51,10 +50,10 @@ module _
     unfolding step_answer
     step-state = ap (λ (a : Told). a.state) d.answered ∙ rw zero_of
 
-    -- each channel's letter and value are what it shows
-    step_row : (c : ℕ) → c < channels img → reading_in letters_left values_left c ≡ reading_at img s c
+    -- each channel's letter and value in the lent arrays are the channel's reading
+    step_reading : (c : ℕ) → c < channels img → reading_in letters_left values_left c ≡ reading_at img s c
     unfolding letters_written values_written reading_in letters_of values_of
-    step_row c h =
+    step_reading c h =
         let n = channels img in
         let a : get_or letters_left c 0 ≡ (reading_at img s c).letter =
         ap (λ x. get_or x c 0) d.lettered
@@ -66,13 +65,13 @@ module _
         rw (a, b)
 
     pub step_text :
-        {row : List Reading} → row ≡ table (reading_in letters_left values_left) 96 → line_text s.cycles (take (channels img) row) ≡ cycle_text img s
+        {readings : List Reading} → readings ≡ table (reading_in letters_left values_left) 96 → line_text s.cycles (take (channels img) readings) ≡ cycle_text img s
     unfolding cycle_text
     step_text e =
         rw (e, take-table (reading_in letters_left values_left) (channels img) 96 step-accepted.1)
-        (ap (line_text s.cycles) (table_same (reading_in letters_left values_left) (reading_at img s) (channels img) step_row))
+        (ap (line_text s.cycles) (table_same (reading_in letters_left values_left) (reading_at img s) (channels img) step_reading))
 
-  -- the state that a refused step hands back
+  -- a refused step hands back the state that it was handed
   pub step_refused : (stepped.number ≡ 0 → ⊥) → stepped.state ≡ s
   unfolding step_answer number_of_step
   step_refused n =
@@ -81,7 +80,7 @@ module _
 
 -- ---- a cycle's line
 module _ (img : List ℕ) (s : State) (word : ℕ) (out : List ℕ) where
-  -- the step was refused
+  -- a call for a cycle's line whose step is refused
   pub line_refused :
       {number : ℕ} → number ≡ step_number img s word 96 96 → (number ≡ 0 → ⊥)
       → LineDone img s word out (record { number = number; length = 0; state = s }) out
@@ -89,7 +88,7 @@ module _ (img : List ℕ) (s : State) (word : ℕ) (out : List ℕ) where
   line_refused {number} e n = let q = ne_eqb number 0 n in record { answered = rw (← e, q); over = rw (← e, q) }
 
   module _ {text left : List ℕ} (e : 0 ≡ step_number img s word 96 96) (t : text ≡ cycle_text img s) where
-    -- the line is too long
+    -- a call for a cycle's line that is longer than the slice
     pub line_long :
         {refusal : Refusal} → WriteDone text out (Err refusal) left
         → LineDone img s word out (record { number = number refusal; length = 0; state = s }) left
@@ -98,7 +97,7 @@ module _ (img : List ℕ) (s : State) (word : ℕ) (out : List ℕ) where
         let n = ne_eqb (number refusal) 0 (λ z. absurd (omega (arith, z, number_positive refusal))) in
         record { answered = rw (← e, ← t, ← d.answered, n); over = d.over ∙ rw (← e, t) }
 
-    -- it was written
+    -- a call for a cycle's line that was written
     pub line_written :
         {n : ℕ} {after : State} → WriteDone text out (Ok n) left → after ≡ state_after img word s
         → LineDone img s word out (record { number = 0; length = n; state = after }) left

@@ -10,7 +10,7 @@ use Rattle.trace_input.specs.Input.{image_of, words_of, input_number}
 use Rattle.trace_input.specs.Laws.Head.{head_decides, head_whole}
 use Rattle.tracer.specs.Trace.{trace_of, printed}
 
--- so a program that keeps so many bytes and counts the others can print what is due for the whole input
+-- a program that keeps an input's first 33,570 bytes and counts the others can print what is due for the whole input
 pub head_prints :
     (input : List ℕ)
     → let head = take 33570 input in

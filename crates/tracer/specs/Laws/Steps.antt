@@ -14,8 +14,7 @@ use Rattle.cycle.specs.Cycle.{after}
 use Rattle.cycle.specs.Laws.Cycle.{cycles-next}
 use Rattle.cycle.specs.Laws.Kept.{fitting-next}
 use Rattle.cycle.specs.Loops.Turns.{after_next}
-use Rattle.engine.specs.Answer.{step_number}
-use Rattle.engine.specs.Loops.Taken.{state_number}
+use Rattle.engine.specs.Answer.{step_number, state_number}
 use Rattle.engine.specs.Laws.Answer.{state_0, number_last}
 use Rattle.trace_input.specs.Input.{image_of, words_of, input_number}
 use Rattle.trace_input.specs.Laws.Input.{input-accepted, words_few, words_below}
@@ -48,7 +47,7 @@ module _ (input : List ℕ) (e : input_number input (length input) ≡ 0) where
       let i = steps_fit img words a (omega (arith, words_few input e)) k h in
       (sym (state_0 img _ j (fits-fitting img a _ i.0)), i.1)
 
-  -- word k is taken,
+  -- the step with word k is not refused
   pub step_taken :
       (k : ℕ) → k < length words → step_number img (after img (fresh_state img) (take k words)) (get_or words k 0) 96 96 ≡ 0
   step_taken k h =
@@ -58,6 +57,6 @@ module _ (input : List ℕ) (e : input_number input (length input) ≡ 0) where
       let late = ne_eqb s.cycles 1000000 (λ q. omega (arith, i.1, words_few input e)) in
       rw (le-ltb 96 (channels img) few) at (sym (number_last img s (get_or words k 0) 96 96 i.0 late (words_below input e k h)))
 
-  -- and so is the state after the last
+  -- the closing line after the last word's cycle is not refused
   pub closing_taken : state_number img (after img (fresh_state img) words) ≡ 0
   closing_taken = rw take-length at (state_taken (length words) (omega arith)).0

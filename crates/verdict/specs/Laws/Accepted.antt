@@ -24,7 +24,7 @@ feeder img n p e =
     let f = (feeds_ok img n p r.0).0 r.2 in
     record { channel = r.0; there = r.1; node = f.0; input = f.1 }
 
--- an image that the judge accepts has all of these facts,
+-- an image that the judge accepts has all the facts of `Accepted`
 pub accepted : (img : List ℕ) → judge img ≡ 0 → Accepted img
 accepted img e =
     let s = clear img e in
@@ -44,7 +44,7 @@ accepted img e =
       few_stations = ltb-false 256 (sum_below (stations img) (channels img)) s.no_11;
     }
 
--- and the judge accepts an image that has them
+-- the judge accepts an image that has all the facts of `Accepted`
 pub accepts : (img : List ℕ) → Accepted img → judge img ≡ 0
 accepts img a =
     unclear img
@@ -65,7 +65,7 @@ accepts img a =
       no_11 = le-ltb 256 (sum_below (stations img) (channels img)) a.few_stations;
     }
 
--- every channel of it leads to a port that has a place
+-- every channel of an accepted image leads to a port that has a place
 pub accepted-wired : (img : List ℕ) → Accepted img → Wired img (channels img)
 accepted-wired img a =
     record {

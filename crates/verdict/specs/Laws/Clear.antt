@@ -6,13 +6,13 @@ use Rattle.laws.specs.Laws.Choice.{past}
 use Rattle.image.specs.Image.{nodes, channels, stations}
 use Rattle.verdict.specs.Judge.{judge, bad_kind, bad_wire, bad_port, fed_twice, not_fed, bad_stations, bad_depth}
 
--- numbers 1 to 3 have no cause
+-- numbers 1 to 3 have no cause in the image
 pub record Sized (img : List ℕ) : Type 0 where
   pub no_1 : ltb (length img) 2 ≡ false
   pub no_2 : (outside 1 64 (nodes img) || ltb 96 (channels img)) ≡ false
   pub no_3 : not (eqb (length img) (2 + 5 * nodes img + 5 * channels img)) ≡ false
 
--- nor has any other
+-- none of the numbers 1 to 11 has a cause in the image
 pub record Clear (img : List ℕ) : Type 0 where
   pub sized : Sized img
   pub no_4 : any_below (bad_kind img) (nodes img) ≡ false

@@ -16,7 +16,7 @@ abbrev pub Once : List ℕ → Type 0
 Once img = (b c : ℕ) → b < channels img → c < channels img → to img b ≡ to img c → port img b ≡ port img c → b ≡ c
 
 module _ (img : List ℕ) where
-  -- 7: no channel b before a channel c feeds the port that c feeds
+  -- number 7 has no cause exactly if no channel b before a channel c feeds the port that c feeds
   apart : (any_below (fed_twice img) (channels img) ≡ false) ↔
       ((c : ℕ) → c < channels img → (b : ℕ) → b < c → feeds img (to img c) (port img c) b ≡ false)
   unfolding fed_twice
@@ -46,7 +46,7 @@ module _ (img : List ℕ) where
           (λ e. e)
           (true_or_false (feeds img (to img c) (port img c) b))
 
-  -- 8: some channel feeds each port
+  -- number 8 has no cause exactly if some channel feeds each port
   pub fed_iff : (any_below (not_fed img) (nodes img) ≡ false) ↔
       ((n : ℕ) → n < nodes img → (p : ℕ) → p < inputs (kind img n) → any_below (feeds img n p) (channels img) ≡ true)
   unfolding not_fed

@@ -8,7 +8,7 @@ use Rattle.image.specs.Image.{nodes, channels}
 use Rattle.verdict.specs.Judge.{judge}
 use Rattle.verdict.specs.Laws.Judge.{sizes_ok}
 
--- of an input that is too long only N and C count
+-- of an input over 802 bytes only N and C count
 too_long : (img : List ℕ) → 802 < length img → judge img ≡ (2 if outside 1 64 (nodes img) || ltb 96 (channels img) else 3)
 unfolding judge
 too_long img h =
@@ -20,7 +20,7 @@ too_long img h =
     rw (le-ltb (length img) 2 (omega arith), e, ne_eqb (length img) due (λ q. omega arith)))
     (true_or_false (outside 1 64 (nodes img) || ltb 96 (channels img)))
 
--- the first k bytes have the number of the whole, where k is over 802
+-- the first k bytes of an input have the number of the whole, where k is over 802
 pub head_judges : (img : List ℕ) (k : ℕ) → 802 < k → judge (take k img) ≡ judge img
 unfolding nodes channels
 head_judges img k h =

@@ -1,4 +1,4 @@
--- What the judge's passes look at: the chain's last links, and what the channels below c mark.
+-- What the judge's passes look at: the last numbers of the chain, and the ports that the channels below c feed.
 use Rattle.std.specs.Prelude.{Bool, true, false, not, List, ℕ, ltb, get_or}
 use Rattle.laws.specs.Below.{any_below, sum_below}
 use Rattle.laws.specs.Choice.{◌if◌else◌}
@@ -6,7 +6,7 @@ use Rattle.image.specs.Image.{channels, kind, to, port, stations, inputs}
 use Rattle.verdict.specs.Judge.{bad_stations, bad_depth}
 use Rattle.image.specs.Loops.Ports.{port_place, ports_below}
 
--- numbers 9 to 11
+-- the first of the numbers 9 to 11 that has a cause in the image, and 0 if none has
 unfoldable pub depth_number : List ℕ → ℕ
 depth_number img =
     9 if any_below (bad_stations img) (channels img) else
@@ -14,17 +14,18 @@ depth_number img =
     11 if ltb 256 (sum_below (stations img) (channels img)) else
     0
 
--- the marks of the ports that the channels below c feed
+-- at the place of each port, whether a channel below c feeds it
 unfoldable pub fed_below : List ℕ → ℕ → List Bool
 fed_below img c = ports_below img (λ k. true) false c
 
--- channel c finds its port marked, and whether a channel below c does
+-- whether channel c finds its port fed already, by a channel below c
 abbrev pub finds : List ℕ → ℕ → Bool
 finds img c = get_or (fed_below img c) (port_place (to img c) (port img c)) false
 
+-- whether some channel below c finds its port fed already
 unfoldable pub twice_below : List ℕ → ℕ → Bool
 twice_below img c = any_below (finds img) c
 
--- a port of node n that is not fed
+-- whether some port of node n is not among those that are fed
 unfoldable pub misses : List ℕ → List Bool → ℕ → Bool
 misses img ports n = any_below (λ p. not (get_or ports (port_place n p) false)) (inputs (kind img n))

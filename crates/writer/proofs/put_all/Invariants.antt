@@ -2,7 +2,7 @@
 use mathlib.Core.List.{flat_map}
 use Prim.Native.Nat.{◌≤◌}
 use lib.ListN.{length, take}
-use Rattle.writer.specs.Loops.Put.{Put}
+use Rattle.writer.specs.Put.{Put}
 use Rattle.writer.proofs.put_all.Given as goal
 
 abbrev pub invariant-loop-item : goal.invariant-loop-item

@@ -1,5 +1,5 @@
 -- `writer::put_bytes` meets its contract. Assumes nothing.
-use Rattle.writer.specs.Loops.PutLaws.{put_part}
+use Rattle.writer.specs.Laws.Put.{put_part}
 use Rattle.writer.proofs.put_bytes.Goals as goal
 
 pub returns : goal.returns

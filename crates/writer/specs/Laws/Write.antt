@@ -11,8 +11,8 @@ use Rattle.laws.specs.Laws.Cases.{true_or_false}
 use Rattle.refusal.specs.Laws.Number.{number_positive}
 use Rattle.refusal.specs.declared.Refusal.{Refusal}
 use Rattle.refusal.specs.declared.Refusal.TheVariants.{Room}
-use Rattle.writer.specs.Loops.Put.{Put}
-use Rattle.writer.specs.Loops.PutLaws.{put_front}
+use Rattle.writer.specs.Put.{Put}
+use Rattle.writer.specs.Laws.Put.{put_front}
 use Rattle.writer.specs.Write.{written_answer, written_over, WriteDone, write_told, Begins}
 
 module _ (text out : List ℕ) where
@@ -50,7 +50,7 @@ written_begins {text} {out} {left} {n} d =
     record { counts = (rw (m, l, length-append) (omega arith), m ∙ sym (ap length t)); text_is = t })
     (true_or_false (ltb (length out) (length text)))
 
--- an answer of number 0 and so many bytes is that one
+-- a writer's answer that tells number 0 and n bytes is Ok n
 pub told_ok : (answer : Result ℕ Refusal) {n : ℕ} → 0 ≡ (write_told answer).number → n ≡ (write_told answer).length → Ok n ≡ answer
 told_ok (Ok m) z e = ap Ok e
 told_ok (Err refusal) z e = absurd (omega (arith, z, number_positive refusal))

@@ -4,7 +4,7 @@ use borrow.Author.Rules.{rules}
 use mir.Syntax.{w32}
 use mir.Val.{SFits}
 use mir.Facts.{to_z-of_z}
-use Rattle.writer.specs.Loops.PutLaws.{put-after, put_long}
+use Rattle.writer.specs.Laws.Put.{put-after, put_long}
 use Rattle.layout.specs.Bytes.{node_bytes}
 use Rattle.layout.specs.Laws.Bytes.{number_long, token_long, node_long}
 use Rattle.encode.proofs.NodesTextNode.put.Goals as goal

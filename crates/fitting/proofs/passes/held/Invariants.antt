@@ -1,4 +1,4 @@
--- What the stations looked at so far hold: it is counted, and each count is a byte.
+-- `fitting::passes::held`: what the stations looked at so far hold is counted, and each count is a byte.
 use Rattle.std.proofs.Common.{◌≡◌, ◌*◌, ◌≤◌}
 use Rattle.std.specs.Prelude.{get_or}
 use Rattle.laws.specs.Below.{sum_below}

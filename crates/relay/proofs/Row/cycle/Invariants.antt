@@ -1,3 +1,4 @@
+-- `relay::Row::cycle`: the first j stations are those after the cycle, and the others are as they were.
 use mathlib.Core.Path.{◌≡◌}
 use Rattle.laws.specs.Table.{table_over}
 use Rattle.relay.specs.RowCycle.{station_after}

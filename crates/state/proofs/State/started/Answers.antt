@@ -1,4 +1,4 @@
--- `state::State::started` meets its contract. The invariants: the first n nodes are filled in, and then the first c marks. Assumes nothing.
+-- `state::State::started` meets its contract: the first n nodes are filled in, and then the first c channels are pending. Assumes nothing.
 use mathlib.Core.Path.{◌≡◌, ap, ◌∙◌}
 use Prim.Native.Nat.{◌<◌}
 use native.Mathlib.Numerals.{add-one}

@@ -1,4 +1,4 @@
--- The first n nodes are filled in, and then the first c marks.
+-- `state::State::started`: the first n nodes are filled in, and then the first c channels are pending.
 use mathlib.Core.Path.{◌≡◌}
 use Prim.Native.Nat.{◌≤◌}
 use Rattle.image.specs.Image.{nodes}

@@ -1,4 +1,4 @@
--- `netlist::passes::all_stations` meets its contract. Assumes nothing.
+-- `verdict::passes::all_stations` meets its contract. Assumes nothing.
 use Rattle.std.proofs.Common.{◌≤◌, refl, add-one, arith}
 use Rattle.laws.specs.Below.{sum_below}
 use Rattle.image.specs.Readers.{wire_at}

@@ -1,4 +1,4 @@
--- `netlist::passes::all_stations`: the stations on the channels below c are added, each of them a byte.
+-- `verdict::passes::all_stations`: the stations on the channels below c are added, each of them a byte.
 use Rattle.std.proofs.Common.{◌≡◌, ◌≤◌, ◌*◌}
 use Rattle.laws.specs.Below.{sum_below}
 use Rattle.image.specs.Image.{stations}

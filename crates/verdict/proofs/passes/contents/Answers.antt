@@ -1,4 +1,4 @@
--- `netlist::passes::contents` meets its contract: at each return the tests for the numbers before it have failed. Assumes nothing.
+-- `verdict::passes::contents` meets its contract: at each return the tests for the numbers before it have failed. Assumes nothing.
 use Rattle.std.proofs.Common.{rules, tests, Bool, true, false, List, ℕ, arith, ◌≡◌, ◌≤◌, sym, ◌∙◌, refl}
 use Rattle.std.proofs.lemmas.Iterator.{YieldsList-from_range}
 use Rattle.std.proofs.lemmas.Iterator.Search.{any_from_yields_List}
@@ -19,7 +19,7 @@ use Rattle.verdict.specs.Loops.PassesLaws.{wired, twice_is, misses_is}
 use Rattle.verdict.proofs.passes.contents.Goals.{After-any, After-any-2, After-any-3, After-any-4}
 use Rattle.verdict.proofs.passes.contents.Goals as goal
 
--- what a pass found
+-- the pass for number 4 found what the definition asks
 four : (c : After-any) → any_below (bad_kind c.args.image.now) (nodes c.args.image.now) ≡ c.any.result
 four c =
     sym (any_from_yields_List (bad_kind c.args.image.now) _ _ _ c.any.ensures.ran
@@ -35,7 +35,7 @@ six c =
     sym (any_from_yields_List (bad_port c.args.image.now) _ _ _ c.any-3.ensures.ran
     (YieldsList-from_range 0 _ (channels c.args.image.now) refl (omega (arith, c.channels-channels.ensures))) (λ x b q k. search (rules, tests)) ∙ any_range _ _)
 
--- where 4, 5 and 6 have no cause
+-- an image in which none of the numbers 1 to 6 has a cause
 module _ (img : List ℕ) (sized : Sized img) (no_4 : any_below (bad_kind img) (nodes img) ≡ false)
     (no_5 : any_below (bad_wire img) (channels img) ≡ false) (no_6 : any_below (bad_port img) (channels img) ≡ false) where
   few : nodes img ≤ 64
@@ -45,7 +45,7 @@ module _ (img : List ℕ) (sized : Sized img) (no_4 : any_below (bad_kind img) (
   places : Wired img (channels img)
   places = wired img (channels img) few no_5 no_6
 
-  -- 7, 8 and the depths are left, and the tests for 7 and 8 are the definition's
+  -- where numbers 1 to 6 have no cause, 7, 8 and the depths are left, and the passes' tests for 7 and 8 are the definition's
   left : (ports : List Bool) → ports ≡ fed_below img (channels img)
       → judge img ≡ (7 if twice_below img (channels img) else 8 if any_below (misses img ports) (nodes img) else depth_number img)
   unfolding judge depth_number
@@ -75,7 +75,7 @@ feed_ports-requires c =
     let a = goal.at.feed_ports-requires c in
     places c.args.image.now c.requires (four a.After-any ∙ c.if-any.false) (five a.After-any-2 ∙ c.if-any-2.false) (six a.After-any-3 ∙ c.if-any-3.false)
 
--- a refusal's number is the chain's, where it is that of the first test
+-- the number of a refusal is that of the chain, where it is the number of the chain's first test
 first : (r : Refusal) (test : Bool) (later : ℕ) → number r ≡ (7 if test else 0) → (7 if test else later) ≡ number r
 first r true later e = sym e
 first r false later e = let h = number_positive r in absurd (omega arith)
@@ -89,7 +89,7 @@ returns-in_err-ports c =
     (first r _ _ c.in_err-ports.ensures.number) in
     rw refused (search rules)
 
--- and that for 8
+-- the pass for number 8 found what the definition asks
 eight : (c : After-any-4) → any_below (misses c.args.image.now c.in_ok-ports.ports) (nodes c.args.image.now) ≡ c.any-4.result
 eight c =
     sym (any_from_yields_List (misses c.args.image.now _) _ _ _ c.any-4.ensures.ran

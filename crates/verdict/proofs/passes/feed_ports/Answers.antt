@@ -1,4 +1,4 @@
--- `netlist::passes::feed_ports` meets its contract: the place that a turn marks is that of its channel's port, and it is there. Assumes nothing.
+-- `verdict::passes::feed_ports` meets its contract: a turn writes to the place of its channel's port, and that place is there. Assumes nothing.
 use mathlib.Core.Path.{◌≡◌, refl}
 use Rattle.std.proofs.Common.{Bool, true, false, ◌<◌, ◌+◌, ◌*◌, get_or, add-one, arith}
 use Rattle.laws.specs.Below.{any_below}
@@ -30,7 +30,7 @@ loop-i-init c = (omega arith, refl, refl)
 pub bounds-ports-at : goal.bounds-ports-at
 bounds-ports-at c = within (goal.at.bounds-ports-at c).After-wire_at-w
 
--- what stands there is what the definition finds
+-- what stands at the place of a channel's port is what the definition finds
 found : (c : After-wire_at-w) → c.loop-i.ports ≡ fed_below c.args.image.now c.loop-i.i → (b : Bool)
     → get_or c.loop-i.ports (3 * c.wire_at-w.result.to + c.wire_at-w.result.port) false ≡ b
     → finds c.args.image.now c.loop-i.i ≡ b

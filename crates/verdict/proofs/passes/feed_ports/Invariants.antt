@@ -1,4 +1,4 @@
--- `netlist::passes::feed_ports`: no channel so far found its port marked, and the marks are the definition's below i.
+-- `verdict::passes::feed_ports`: no channel so far found its port fed already, and the ports that are fed are the definition's below i.
 use Rattle.std.proofs.Common.{◌≡◌, ◌≤◌, false}
 use Rattle.verdict.specs.Loops.Passes.{fed_below, twice_below}
 use Rattle.verdict.proofs.passes.feed_ports.Given as goal

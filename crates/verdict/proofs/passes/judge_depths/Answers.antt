@@ -1,4 +1,4 @@
--- `netlist::passes::judge_depths` meets its contract. Assumes nothing.
+-- `verdict::passes::judge_depths` meets its contract. Assumes nothing.
 use Rattle.std.proofs.Common.{◌≡◌, ◌∙◌, sym, refl, rules, tests, arith}
 use Rattle.std.proofs.lemmas.Iterator.{YieldsList-from_range}
 use Rattle.std.proofs.lemmas.Iterator.Search.{any_from_yields_List}

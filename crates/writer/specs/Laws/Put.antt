@@ -6,9 +6,9 @@ use Rattle.std.proofs.Math.Seq.{length-sets, take-length, paste}
 use borrow.Rule.Slice.PartMut.{put_mid}
 use Rattle.std.proofs.lemmas.Slice.{put_mid-paste}
 use native.Mathlib.Omega.{arith}
-use Rattle.writer.specs.Loops.Put.{Put}
+use Rattle.writer.specs.Put.{Put}
 
--- one text after another is one text
+-- two texts stored one after another are one text stored
 sets_sets : {A : Type 0} (xs ys l : List A) (i : ℕ) → sets (sets l i xs) (i + length xs) ys ≡ sets l i (xs ++ ys)
 sets_sets [] ys l i = rw add-zero
 sets_sets (x ∷ xs) ys l i = rw add-suc (rw (← suc-add i (length xs)) (sets_sets xs ys (set l i x) (suc i)))
@@ -32,11 +32,11 @@ put_two x y i l = record { bytes = rw add-one; next = refl }
 pub put_long : {text old new : List ℕ} {at end : ℕ} → Put text at old new end → length new ≡ length old
 put_long {text} {old} {new} {at} p = ap length p.bytes ∙ length-sets old at text
 
--- a text at the front
+-- a text stored from place 0 on stands at the front of the slice
 pub put_front : {text old new : List ℕ} {end : ℕ} → length text ≤ length old → Put text 0 old new end → new ≡ text ++ drop (length text) old
 put_front {text} {old} h p = p.bytes ∙ sets-eq text old 0 (rw zero-add h) ∙ rw zero-add
 
--- a text that is copied to a part of the slice
+-- a text that is copied to a part of the slice is stored there
 pub put_part :
     (text : List ℕ) {old now : List ℕ} (at : ℕ) → at + length text ≤ length old → now ≡ text
     → Put text at old (put_mid at (at + length text - at) old now) (at + length text)
@@ -49,5 +49,5 @@ put_part text {old} {now} at h e =
       next = refl;
     }
 
--- what stores a text part by part
+-- the laws that store a text part by part
 pub ruleset put_steps = (put_one, put_two, put-after, put_long)

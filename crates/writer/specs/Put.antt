@@ -2,7 +2,7 @@
 use Rattle.std.specs.Prelude.{List, ◌≡◌, ℕ, ◌+◌, length}
 use Rattle.std.proofs.lemmas.List.Edits.{sets}
 
--- the text stands from place `at` on, all else is as it was, and `end` is the place after it
+-- a text was stored: it stands from place `at` on, all else is as it was, and `end` is the place after it
 pub record Put (text : List ℕ) (at : ℕ) (old new : List ℕ) (end : ℕ) : Type 0 where
   pub bytes : new ≡ sets old at text
   pub next : end ≡ at + length text

@@ -1,3 +1,0 @@
--- What only loops hold.
-pub mod Put
-pub mod PutLaws
