@@ -16,7 +16,7 @@ use Rattle.relay.specs.Link.{Link}
 use Rattle.bench.specs.Bench.{Told, bench_answer, bench_after}
 use Rattle.bench.proofs.BenchLaws.{length_bench, bench_stays}
 use Rattle.bench.specs.ByValue.{BenchedTold, row_benched}
-use Rattle.bench.specs.Copy.{empty_row, record_at}
+use Rattle.bench.specs.Loops.Copy.{empty_row, record_at}
 
 -- a test of the first n records, one by one
 pub all_listed :

@@ -3,7 +3,7 @@ ghost use Rattle.std.specs.Prelude.{◌≡◌, ◌≤◌, Ok, min};
 ghost use Rattle.laws.specs.Below.{all_below};
 ghost use Rattle.bench.specs.Bench.{fits, told, reply};
 ghost use Rattle.bench.specs.ByValue.{benched_told, station_benched, row_benched};
-ghost use Rattle.bench.specs.Copy.{record_at, empty_row};
+ghost use Rattle.bench.specs.Loops.Copy.{record_at, empty_row};
 
 use crate::{Answer, Benched, Records};
 use refusal::Refusal;
@@ -88,7 +88,7 @@ pub fn row_step(row: Row, n: usize, link: Link, stop: bool) -> Benched<Row>
 // ---- a row that is lent: copied out, and stored back
 
 // Returns eight empty stations, to be copied over.
-#[tactic(auto, unfolding(crate::specs::Copy::empty_row))]
+#[tactic(auto, unfolding(crate::specs::Loops::Copy::empty_row))]
 pub(crate) fn empty_row() -> Row
     ensures { result ≡ empty_row }
 {

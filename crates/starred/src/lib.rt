@@ -1,5 +1,5 @@
-// The starred edges: the arithmetic ones as a table, to be run; all of them as one claim on the
-// definitions (specs/Starred.antt).
+// The starred edges: the arithmetic ones as a table, which `test_engine` runs; all of them as one claim
+// on the definitions (specs/Starred.antt).
 #![tactic(auto)]
 
 ghost use Rattle.std.specs.Prelude.{◌≡◌};

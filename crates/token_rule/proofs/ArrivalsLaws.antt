@@ -27,7 +27,7 @@ use Rattle.cycle.specs.Laws.Cycle.{firings_next, queue_next_lem}
 use Rattle.fitting.specs.Fitting.{Steady}
 use Rattle.fitting.specs.Laws.Fitting.{fitting-fresh}
 use Rattle.cycle.specs.Laws.Kept.{steady-next}
-use Rattle.token_rule.specs.Safety.{Sound}
+use Rattle.token_rule.specs.Laws.Sound.{Sound}
 use Rattle.token_rule.specs.Laws.Safety.{sound-fresh, sound-next}
 use Rattle.token_rule.specs.Cycles.{arrivals}
 

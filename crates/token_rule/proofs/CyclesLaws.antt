@@ -10,7 +10,7 @@ use Rattle.cycle.specs.Cycle.{state_after, after}
 use Rattle.cycle.specs.Laws.Cycle.{cycles-next, firings_next}
 use Rattle.fitting.specs.Fitting.{Steady, Fitting}
 use Rattle.cycle.specs.Laws.Kept.{steady-next, fitting-next}
-use Rattle.token_rule.specs.Safety.{Sound}
+use Rattle.token_rule.specs.Laws.Sound.{Sound}
 use Rattle.token_rule.specs.Laws.Safety.{sound-next}
 use Rattle.token_rule.specs.Cycles.{fired_in}
 

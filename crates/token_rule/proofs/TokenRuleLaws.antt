@@ -19,7 +19,7 @@ use Rattle.engine.specs.Answer.{sets_above}
 use Rattle.cycle.specs.Cycle.{after}
 use Rattle.token_rule.specs.Cycles.{fired_in}
 use Rattle.token_rule.proofs.CyclesLaws.{cycles-after, firings_after, fitting-after, sound-after}
-use Rattle.token_rule.specs.Safety.{Sound}
+use Rattle.token_rule.specs.Laws.Sound.{Sound}
 use Rattle.token_rule.specs.Laws.Safety.{sound-fresh}
 use Rattle.token_rule.proofs.ArrivalsLaws.{arrivals-fresh}
 use Rattle.token_rule.specs.Progress.{Furthest}

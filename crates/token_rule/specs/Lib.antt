@@ -3,6 +3,4 @@ pub mod Cycles
 pub mod Calls
 pub mod Progress
 pub mod TokenRule
--- What the proof carries from cycle to cycle: a sound state.
-pub mod Safety
 pub mod Laws

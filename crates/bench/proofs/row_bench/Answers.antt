@@ -6,7 +6,7 @@ use Rattle.relay.specs.declared.Row.{Row}
 use Rattle.relay.specs.Link.{Link}
 use Rattle.bench.specs.Bench.{BenchDone}
 use Rattle.bench.specs.ByValue.{BenchedTold, benched_told, row_benched}
-use Rattle.bench.specs.Copy.{empty_row}
+use Rattle.bench.specs.Loops.Copy.{empty_row}
 use Rattle.bench.proofs.BenchLaws.{bench_long, refused_number}
 use Rattle.bench.proofs.CopyLaws.{bench_copied, copied_stays}
 use Rattle.bench.proofs.row_bench.Goals as goal

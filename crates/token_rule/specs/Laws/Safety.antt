@@ -27,7 +27,7 @@ use Rattle.cycle.specs.Laws.Cycle.{value_next, firings_next, fires_ready, fires-
 use Rattle.fitting.specs.Fitting.{Steady}
 use Rattle.state.specs.Laws.Fresh.{fresh_node_lem, fresh_firings, fresh-tokens}
 use Rattle.cycle.specs.Laws.Kept.{steady-next}
-use Rattle.token_rule.specs.Safety.{Sound}
+use Rattle.token_rule.specs.Laws.Sound.{Sound}
 
 -- a link that shows the first token of a stretch from a on shows f a
 shown_first : (f : ℕ → ℤ) (a : ℕ) (xs : List ℤ) → is_some (link_of xs) ≡ true → Stretch f a xs → unwrap_or (link_of xs) (pos 0) ≡ f a

@@ -1,5 +1,5 @@
--- Safety of a state: every value that a node shows and every token under way is the strict system's. Nobody has to believe this: it is what the proof
--- of the token rule carries from cycle to cycle.
+-- Safety of a state: every value that a node shows and every token under way is the strict system's. The proof of the token rule carries it from cycle
+-- to cycle.
 use Rattle.std.specs.Prelude.{List, ◌≡◌, ℕ, ◌<◌}
 use Rattle.laws.specs.Stretch.{Stretch}
 use Rattle.image.specs.Image.{nodes, channels, to}
