@@ -12,7 +12,7 @@ set -eu
 each=200
 program=60
 all=4000
-more=' capi:240 clock:240 trace:220 test_engine:90 '
+more=' capi:240 clock:240 trace:220 test_engine:100 '
 # These asked something of their caller before the rule; no other does.
 asking=' clock::cycles readings::show writer::put_all writer::put_bytes '
 
