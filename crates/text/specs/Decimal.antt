@@ -12,8 +12,8 @@ unfoldable pub places : ℕ → ℕ → List ℕ
 places zero n = digit n ∷ []
 places (suc more) n = (digit n ∷ []) if ltb n 10 else (places more (n / 10) ++ (digit n ∷ []))
 
--- n in decimal: `decimal n ≡ digit n ∷ []` below 10 (`decimal_small`), and `decimal n ≡ decimal (n / 10) ++ (digit n ∷ [])` from 10 on (`decimal_step`, both in
--- Laws/Decimal), since so many digits are enough: 20 up to 10^20 - 1, which holds every number of 64 bits, and more for larger numbers
+-- n in decimal: `decimal n ≡ digit n ∷ []` below 10 (`decimal_small` in Laws/Decimal), `decimal n ≡ decimal (n / 10) ++ (digit n ∷ [])` from 10 on
+-- (`decimal_step`), since so many digits are enough: 20 up to 10^20 - 1, which holds every number of 64 bits, and more for larger numbers
 unfoldable pub decimal : ℕ → List ℕ
 decimal n = places (19 + n / 10 ^ 19) n
 
