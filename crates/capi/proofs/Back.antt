@@ -10,9 +10,9 @@ use Rattle.verdict.specs.Judge.{judge}
 use Rattle.state.specs.declared.State.{State}
 use Rattle.state.specs.Fresh.{fresh_answer}
 use Rattle.cycle.specs.Cycle.{state_after}
-use Rattle.engine.specs.Answer.{number_of_step, step_answer, run_answer}
+use Rattle.cycle.specs.Run.{run_answer}
+use Rattle.engine.specs.Answer.{number_of_step, step_answer, StepDone}
 use Rattle.engine.specs.Laws.Answer.{run_still}
-use Rattle.engine.specs.Done.{StepDone}
 use Rattle.layout.specs.Bytes.{state_bytes, state_length, state_in}
 use Rattle.capi.specs.Calls.{fresh_number, fresh_over, state_left, FreshCall, StepCall, RunCall}
 use Rattle.capi.specs.Laws.Calls.{state-stored}

@@ -9,7 +9,8 @@ use Rattle.relay.specs.declared.Station.{Station}
 use Rattle.state.specs.declared.State.{State}
 use Rattle.state.specs.Fresh.{fresh_answer}
 use Rattle.cycle.specs.Cycle.{state_after}
-use Rattle.engine.specs.Answer.{number_of_step, letters_written, values_written, run_answer}
+use Rattle.cycle.specs.Run.{run_answer}
+use Rattle.engine.specs.Answer.{number_of_step, letters_written, values_written}
 use Rattle.writer.specs.Write.{written_answer, written_over, write_told}
 use Rattle.tracer.specs.Done.{line_answer, line_over, closing_answer, closing_over}
 use Rattle.bench.specs.Bench.{bench_answer, bench_after}

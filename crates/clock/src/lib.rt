@@ -1,5 +1,9 @@
-// Cycles, one after another: which inputs are ready (data validation), which nodes are held back (back
-// pressure), which nodes fire (clock gating), and then every token that passes moves on.
+// The run: a cycle for each of a list of stall words, on an accepted image.
+//
+// `run` tests number 21, finds out how many words it takes and what ends them (`words_taken`: 22 and 12
+// before each word), and makes their cycles (`cycles`): which inputs are ready (data validation), which
+// nodes are held back (back pressure), which nodes fire (clock gating), and then every token that passes
+// moves on.
 //
 // A cycle has the parts of a shell's cycle, each a loop with its comment: data validation and back
 // pressure over the channels, clock gating over the nodes, and the move over the channels with their
@@ -7,8 +11,8 @@
 // arrays of their own. Every part reads the state at the start of the cycle, `old`, and writes to `s`:
 // no part can see what another has changed, and each loop's invariant is one equation about `old`.
 //
-// It is one function because a state that is handed on is copied (docs/PERFORMANCE.md). What it calls
-// is small: the leaves of `pearl`, `relay` and `shell`, `fired` and `stalls`. The image is decoded
+// `cycles` is one function because a state that is handed on is copied (docs/PERFORMANCE.md). What it
+// calls is small: the leaves of `pearl`, `relay` and `shell`, `fired` and `stalls`. The image is decoded
 // once a call, into wires (`wires_of`) and kinds (`node::kinds_of`).
 #![tactic(auto)]
 
@@ -17,13 +21,34 @@ ghost use Rattle.image.specs.Image.{channels};
 ghost use Rattle.pearl.specs.Kind.{kind_byte};
 ghost use Rattle.pearl.specs.Next.{next_value};
 ghost use Rattle.cycle.specs.Cycle.{stalled, after};
+ghost use Rattle.cycle.specs.Run.{sets_above, RunDone};
 ghost use Rattle.fitting.specs.Fitting.{Fitting};
 ghost use Rattle.cycle.specs.Loops.Parts.{wires_below};
+ghost use Rattle.cycle.specs.Loops.Taken.{taken_from};
+ghost use Rattle.clock.specs.Told.{run_told};
+ghost use Rattle.clock.specs.Loops.Told.{taken_told};
 
 use image::Wire;
 use netlist::Netlist;
 use pearl::Kind;
+use refusal::Refusal;
 use state::{Node, State};
+
+// A run's answer: the steps done, the state after them, and what stopped it, if it did not come to the
+// end of its words.
+#[derive(Clone, Copy)]
+pub struct Ran {
+    pub steps: u32,
+    pub state: State,
+    pub stopped: Option<Refusal>,
+}
+
+// Which words a run takes: how many, and what stops it.
+#[derive(Clone, Copy)]
+struct Taken {
+    steps: usize,
+    stopped: Option<Refusal>,
+}
 
 // Whether bit n of a stall word is set. A node's number is below 64 by what a netlist promises; here a
 // shift asks for it.
@@ -35,7 +60,7 @@ fn stalls(word: u64, n: usize) -> bool
 }
 
 // A node after it has fired, given what its ports bring. At most 1,000,000 is asked here, at `cycles`
-// and of a run's words: of firings, of a sum and of a cycle count. That is no one value, so no struct
+// and at `words_taken`: of firings, of a sum and of a cycle count. That is no one value, so no struct
 // has it.
 fn fired(node: Node, kind: Kind, a: i32, b: i32, c: i32) -> Node
     requires { node.firings < 1000000 }
@@ -67,20 +92,19 @@ fn wires_of(netlist: Netlist) -> [Wire; 96]
     wires
 }
 
-// Returns the state after one cycle for each of `words`, in order, given a state that fits the netlist's
-// image and no more words than cycles are left. Each cycle is worked from the state at its start, `old`,
+// The state after one cycle for each of `words`, in order, given a state that fits the netlist's image
+// and no more words than cycles are left. Each cycle is worked from the state at its start, `old`,
 // and written to `s`. It is one function because a state that is handed to another is copied, which
 // costs a tenth of the cycle each time (docs/PERFORMANCE.md). For the same reason a wire's fields are
 // taken out in both loops over the channels, and once more in `readings`. Netlist and state are no
-// struct that says that they fit: `fitted` of the engine would answer a state of 13 kB in a `Result`,
-// beside its caller's own. What is decoded of the netlist stands beside the state's arrays: it is the
+// struct that says that they fit: what made one would answer a state of 13 kB in a `Result`. What is decoded of the netlist stands beside the state's arrays: it is the
 // same in every cycle.
 //
 // The loops go by index: each turn reads and writes several arrays, at places that it works out.
 // Starved, blocked and firing nodes have arrays of their own, since a channel starves one node and
 // blocks another. What the inputs bring stands flat, port p of node n at place 3 * n + p, as the judge's
 // fed ports and the strict run's feeders do: one law of ports serves all three.
-pub fn cycles(netlist: Netlist, state: State, words: &[u64]) -> State
+fn cycles(netlist: Netlist, state: State, words: &[u64]) -> State
     requires fitting { Fitting netlist.image.now state }
     requires words_bound { state.cycles + length words.now ≤ 1000000 }
     ensures { result ≡ after netlist.entry.image.now state words.now }
@@ -168,4 +192,60 @@ pub fn cycles(netlist: Netlist, state: State, words: &[u64]) -> State
         s.cycles = old.cycles + 1;
     }
     s
+}
+
+// Returns whether a stall word sets a bit at or above n.
+pub fn sets_above(word: u64, n: u8) -> bool
+    ensures { result ≡ sets_above n word }
+{
+    word.checked_shr(u32::from(n)).is_some_and(|rest| rest != 0)
+}
+
+// Which of `words` a run takes, given how many nodes there are and how many cycles were made: 22 and 12
+// are looked for before each.
+fn words_taken(nodes: u8, cycles: u32, words: &[u64]) -> Taken
+    requires { cycles ≤ 1000000 }
+    ensures { taken_told result ≡ taken_from nodes cycles words.now }
+{
+    let room = (State::CYCLES - cycles) as usize;
+    for (i, &word) in words.iter().enumerate() {
+        if i == room {
+            return Taken {
+                steps: i,
+                stopped: Some(Refusal::Cycles),
+            };
+        }
+        if sets_above(word, nodes) {
+            return Taken {
+                steps: i,
+                stopped: Some(Refusal::Stall),
+            };
+        }
+    }
+    Taken {
+        steps: words.len(),
+        stopped: None,
+    }
+}
+
+// Returns the steps done, the state after them and what stopped the run, given a netlist, a state that
+// fits it and stall words: one cycle for each, in order, up to the first that is refused. Refused by 21
+// once, before the first word, and by 22 and then 12 before each word.
+pub fn run(netlist: Netlist, state: State, words: &[u64]) -> Ran
+    ensures { RunDone netlist.entry.image.now state words.now (run_told result) }
+{
+    if !fitting::fits(netlist, &state) {
+        return Ran {
+            steps: 0,
+            state,
+            stopped: Some(Refusal::Misfit),
+        };
+    }
+    let taken = words_taken(netlist.nodes(), state.cycles, words);
+    let last = cycles(netlist, state, &words[..taken.steps]);
+    Ran {
+        steps: taken.steps as u32,
+        state: last,
+        stopped: taken.stopped,
+    }
 }

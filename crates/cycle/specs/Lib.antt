@@ -1,4 +1,5 @@
--- Defines what one cycle makes of a state, and each channel's letter and value in it.
+-- Defines what one cycle makes of a state, each channel's letter and value in it, and what a run of cycles answers.
 pub mod Cycle
+pub mod Run
 pub mod Laws
 pub mod Loops

@@ -2,3 +2,4 @@
 pub mod Parts
 pub mod PartsLaws
 pub mod Turns
+pub mod Taken

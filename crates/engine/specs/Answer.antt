@@ -1,24 +1,18 @@
--- What a step and a run answer, and what a step leaves in the arrays that it is lent.
-use Rattle.std.specs.Prelude.{Bool, not, ◌||◌, List, [], ◌∷◌, ◌++◌, ℕ, suc, ◌/◌, ◌^◌, eqb, ltb, ℤ, length, drop}
+-- What a step answers, and what it leaves in the arrays that it is lent.
+use Rattle.std.specs.Prelude.{not, ◌||◌, List, ◌++◌, ◌≡◌, ℕ, eqb, ltb, ℤ, length, drop}
 use Rattle.laws.specs.Choice.{◌if◌else◌}
 use Rattle.image.specs.Image.{nodes, channels}
 use Rattle.verdict.specs.Judge.{judge}
-use Rattle.engine.specs.declared.Ran.{Ran}
-use Rattle.refusal.specs.Number.{number_if}
 use Rattle.state.specs.declared.State.{State}
 use Rattle.state.specs.Told.{Told}
 use Rattle.cycle.specs.Cycle.{state_after, letters_of, values_of}
+use Rattle.cycle.specs.Run.{sets_above}
 use Rattle.fitting.specs.Fits.{fits}
-
--- 12, "stall word sets a bit at or above N": the word's bits from n on are not all 0
-unfoldable pub sets_above : ℕ → ℕ → Bool
-sets_above n word = not (eqb (word / 2 ^ n) 0)
 
 -- the number that refuses an image or a state, whatever the call: the judge's, then 21
 unfoldable pub state_number : List ℕ → State → ℕ
 state_number img s = judge img if not (eqb (judge img) 0) else 21 if not (fits img s) else 0
 
--- ---- the step
 -- a step's number, given its word and the lengths of the two lent arrays: "1 to 11 rising ..; then 21, 22, 12, 13"
 unfoldable pub step_number : List ℕ → State → ℕ → ℕ → ℕ → ℕ
 step_number img s word letters values =
@@ -51,33 +45,11 @@ module _ (img : List ℕ) (s : State) (word : ℕ) (letters : List ℕ) (values 
   unfoldable pub values_written : List ℤ
   values_written = (values_of img s ++ drop (channels img) values) if eqb number_of_step 0 else values
 
--- ---- the run
--- what a run returns: the steps done, its number, 0 if it came to the end of its words, and the state after those steps
-pub record RunTold : Type 0 where
-  pub steps : ℕ
-  pub number : ℕ
-  pub state : State
-
--- what the code's answer of a run tells, with a number for what stopped it
-abbrev pub run_told : Ran → RunTold
-run_told r = record { steps = r.steps; number = number_if r.stopped; state = r.state }
-
--- what a run returns with one step more, made before those that it counts
-unfoldable pub step_more : RunTold → RunTold
-step_more r = record { steps = suc r.steps; number = r.number; state = r.state }
-
--- what a run returns from a state that fits. "The run takes words in order and stops at the first refusal. It returns the steps done, the state after
--- them, and the number or 0." "then 22 and 12 before each word"
-unfoldable pub ran_from : List ℕ → State → List ℕ → RunTold
-ran_from img s [] = record { steps = 0; number = 0; state = s }
-ran_from img s (word ∷ words) =
-    record { steps = 0; number = 22; state = s } if eqb s.cycles 1000000 else
-    record { steps = 0; number = 12; state = s } if sets_above (nodes img) word else
-    step_more (ran_from img (state_after img word s) words)
-
--- what a run returns, whatever image and state are: "The run checks the image and 21 once"
-unfoldable pub run_answer : List ℕ → State → List ℕ → RunTold
-run_answer img s words =
-    record { steps = 0; number = judge img; state = s } if not (eqb (judge img) 0) else
-    record { steps = 0; number = 21; state = s } if not (fits img s) else
-    ran_from img s words
+-- what a step has done that was lent arrays that held `letters` and `values`, and hold `letters_left` and `values_left` after it, by equations with
+-- the definitions: its contract ensures this record, and the token rule is stated over calls that obey it
+pub record StepDone
+    (img : List ℕ) (s : State) (word : ℕ) (letters : List ℕ) (values : List ℤ) (answer : Told) (letters_left : List ℕ) (values_left : List ℤ)
+    : Type 0 where
+  pub answered : answer ≡ step_answer img s word letters values
+  pub lettered : letters_left ≡ letters_written img s word letters values
+  pub valued : values_left ≡ values_written img s word letters values

@@ -1,5 +1,3 @@
--- Defines what a step and a run answer, and what they have done to what they were lent.
+-- Defines what a step answers, and what it has done to what it was lent.
 pub mod Answer
-pub mod Done
 pub mod Laws
-pub mod Loops

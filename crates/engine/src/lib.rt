@@ -1,52 +1,28 @@
 // The cycle engine: one step of a state, and a run over a list of stall words.
 //
-// `step` asks `admitted` for the netlist or a refusal; then it writes the letters and values
-// (`readings::show`) and makes one cycle. `run` asks `fitted` (the judge, then 21), finds out how many
-// words it takes and what ends them (`words_taken`: 22 and 12 before each word), and makes their
-// cycles. Both make them by one function, `clock::cycles`. That and `show` ask something of their
-// caller, a state that fits the netlist; no call that is made here from outside does.
+// Both judge the image and make their cycles by one function, `clock::run`, which tests 21, and 22 and
+// 12 before each word. A step is a run of one word, from whose state the letters and values are written
+// then (`readings::show`): its 13 comes last.
 #![tactic(auto)]
 
-ghost use Rattle.std.specs.Prelude.{◌≡◌, ◌≤◌, IfOk};
+ghost use Rattle.std.specs.Prelude.{◌≡◌, IfOk};
 ghost use Rattle.refusal.specs.Number.{number_of};
 ghost use Rattle.state.specs.Told.{told};
 ghost use Rattle.fitting.specs.Fitting.{Fitting};
-ghost use Rattle.engine.specs.Answer.{sets_above, step_number, run_told, state_number};
-ghost use Rattle.engine.specs.Loops.Taken.{taken_told, taken_from};
-ghost use Rattle.engine.specs.Done.{StepDone, RunDone};
+ghost use Rattle.cycle.specs.Run.{RunDone};
+ghost use Rattle.clock.specs.Told.{run_told};
+ghost use Rattle.engine.specs.Answer.{state_number, StepDone};
 
+use clock::Ran;
 use netlist::Netlist;
 use refusal::Refusal;
 use state::{Refused, State};
 
-// A run's answer: the steps done, the state after them, and what stopped it, if it did not come to the
-// end of its words.
-#[derive(Clone, Copy)]
-pub struct Ran {
-    pub steps: u32,
-    pub state: State,
-    pub stopped: Option<Refusal>,
-}
-
-// Which words a run takes: how many, and what stops it.
-#[derive(Clone, Copy)]
-struct Taken {
-    steps: usize,
-    stopped: Option<Refusal>,
-}
-
-// Returns whether a stall word sets a bit at or above n.
-pub fn sets_above(word: u64, n: u8) -> bool
-    ensures { result ≡ sets_above n word }
-{
-    word.checked_shr(u32::from(n)).is_some_and(|rest| rest != 0)
-}
-
 // Returns the netlist of an image, given a state that fits it. Refused by 1 to 11, then by 21 where the
 // state does not fit. The state comes by value: behind a reference an array's length is known only where
 // a part of it is taken. Image and state are two parameters here, as C hands them over, and that they
-// fit is asked of no caller. The clauses `number` and `same` stand at each function that answers a
-// netlist: they tie what it answers to the image that it was handed.
+// fit is asked of no caller. The clauses `number` and `same` tie the
+// netlist to the image that was handed in.
 pub fn fitted<'a>(image: &'a [u8], state: State) -> Result<Netlist<'a>, Refusal>
     ensures number { number_of result ≡ state_number image.entry.now state }
     ensures same { IfOk result (λ netlist. netlist.image ≡ image.entry) }
@@ -57,61 +33,6 @@ pub fn fitted<'a>(image: &'a [u8], state: State) -> Result<Netlist<'a>, Refusal>
         return Err(Refusal::Misfit);
     }
     Ok(netlist)
-}
-
-// The netlist for a step that is lent arrays of so many places. Refused by 1 to 11, then by 21, 22, 12
-// and 13.
-fn admitted<'a>(
-    image: &'a [u8],
-    state: State,
-    word: u64,
-    letters: usize,
-    values: usize,
-) -> Result<Netlist<'a>, Refusal>
-    ensures number { number_of result ≡ step_number image.entry.now state word letters values }
-    ensures same { IfOk result (λ netlist. netlist.image ≡ image.entry) }
-    ensures fitting { IfOk result (λ netlist. Fitting netlist.image.now state) }
-{
-    let netlist = fitted(image, state)?;
-    let nodes = netlist.nodes();
-    let channels = netlist.channels() as usize;
-    if state.cycles == State::CYCLES {
-        return Err(Refusal::Cycles);
-    }
-    if sets_above(word, nodes) {
-        return Err(Refusal::Stall);
-    }
-    if (letters < channels) | (values < channels) {
-        return Err(Refusal::Room);
-    }
-    Ok(netlist)
-}
-
-// Which of `words` a run takes, given how many nodes there are and how many cycles were made: 22 and 12
-// are looked for before each.
-fn words_taken(nodes: u8, cycles: u32, words: &[u64]) -> Taken
-    requires { cycles ≤ 1000000 }
-    ensures { taken_told result ≡ taken_from nodes cycles words.now }
-{
-    let room = (State::CYCLES - cycles) as usize;
-    for (i, &word) in words.iter().enumerate() {
-        if i == room {
-            return Taken {
-                steps: i,
-                stopped: Some(Refusal::Cycles),
-            };
-        }
-        if sets_above(word, nodes) {
-            return Taken {
-                steps: i,
-                stopped: Some(Refusal::Stall),
-            };
-        }
-    }
-    Taken {
-        steps: words.len(),
-        stopped: None,
-    }
 }
 
 // Returns the state after one cycle with a stall word, given an image, a state that fits it and arrays
@@ -129,11 +50,18 @@ pub fn step(
 ) -> Result<State, Refused>
     ensures { StepDone image.now state word letters.old values.old (told result) letters.new values.new }
 {
-    let netlist = admitted(image, state, word, letters.len(), values.len()).map_err(
-        |refusal| Refused { state, refusal },
-    )?;
-    readings::show(netlist, state, letters, values);
-    Ok(clock::cycles(netlist, state, &[word]))
+    let netlist = match Netlist::judged(image) {
+        Ok(netlist) => netlist,
+        Err(refusal) => return Err(Refused { state, refusal }),
+    };
+    let ran = clock::run(netlist, state, &[word]);
+    if let Some(refusal) = ran.stopped {
+        return Err(Refused { state, refusal });
+    }
+    match readings::show(netlist, state, letters, values) {
+        Ok(()) => Ok(ran.state),
+        Err(refusal) => Err(Refused { state, refusal }),
+    }
 }
 
 // Returns the steps done, the state after them and what stopped the run, given an image, a state that
@@ -142,21 +70,12 @@ pub fn step(
 pub fn run(image: &[u8], state: State, words: &[u64]) -> Ran
     ensures { RunDone image.now state words.now (run_told result) }
 {
-    let netlist = match fitted(image, state) {
-        Ok(netlist) => netlist,
-        Err(refusal) => {
-            return Ran {
-                steps: 0,
-                state,
-                stopped: Some(refusal),
-            };
-        }
-    };
-    let taken = words_taken(netlist.nodes(), state.cycles, words);
-    let last = clock::cycles(netlist, state, &words[..taken.steps]);
-    Ran {
-        steps: taken.steps as u32,
-        state: last,
-        stopped: taken.stopped,
+    match Netlist::judged(image) {
+        Ok(netlist) => clock::run(netlist, state, words),
+        Err(refusal) => Ran {
+            steps: 0,
+            state,
+            stopped: Some(refusal),
+        },
     }
 }

@@ -5,8 +5,9 @@ use Rattle.laws.specs.Lists.{one_if}
 use Rattle.image.specs.Image.{nodes, channels}
 use Rattle.state.specs.declared.State.{State}
 use Rattle.state.specs.Told.{Told}
-use Rattle.engine.specs.Answer.{sets_above, RunTold}
-use Rattle.engine.specs.Done.{StepDone, RunDone}
+use Rattle.cycle.specs.Run.{sets_above, RunTold}
+use Rattle.cycle.specs.Run.{RunDone}
+use Rattle.engine.specs.Answer.{StepDone}
 
 -- a step of the list: its word, what its two lent arrays held, what it returned, and what they held after it
 pub record Step : Type 0 where

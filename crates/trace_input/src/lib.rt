@@ -58,7 +58,7 @@ fn any_above(input: &[u8]) -> bool
     ensures { result ≡ any_above input.now }
 {
     let n = image::nodes(input);
-    (0..words(input)).any(|k| engine::sets_above(word_at(input, k), n))
+    (0..words(input)).any(|k| clock::sets_above(word_at(input, k), n))
 }
 
 // Whether the judge refuses before it would look at what follows an image.

@@ -31,7 +31,8 @@ use Rattle.cycle.specs.Cycle.{stalled, input_at, blocked_at, reading_at, all_rea
 use Rattle.cycle.specs.Cycle.{state_after, after, letters_of, values_of}
 use Rattle.fitting.specs.Fits.{cycles_fit, firings_fit, pending_fit, stations_fit, counts_fit, node_clear, pending_clear, station_clear, queue_clear}
 use Rattle.fitting.specs.Fits.{unused_clear, balanced, fits}
-use Rattle.engine.specs.Answer.{sets_above, step_number, number_of_step, step_answer, letters_written, values_written, step_more, ran_from, run_answer}
+use Rattle.cycle.specs.Run.{sets_above, step_more, ran_from, run_answer}
+use Rattle.engine.specs.Answer.{step_number, number_of_step, step_answer, letters_written, values_written}
 use Rattle.engine.specs.Laws.Answer.{step-none, step-made}
 
 -- the readings of each cycle of a trace from a state on, and each node's firings after the last

@@ -14,9 +14,10 @@ use Rattle.fitting.specs.Fits.{fits, cycles_fit}
 use Rattle.state.specs.Fresh.{fresh_answer, FreshDone}
 use Rattle.cycle.specs.Cycle.{state_after}
 use Rattle.state.specs.Told.{Told}
-use Rattle.engine.specs.Answer.{step_number, number_of_step, step_answer, RunTold, state_number}
+use Rattle.cycle.specs.Run.{RunTold}
+use Rattle.engine.specs.Answer.{step_number, number_of_step, step_answer, state_number, StepDone}
 use Rattle.engine.specs.Laws.Answer.{number_ok, state_ok, run_none}
-use Rattle.engine.specs.Done.{StepDone, RunDone}
+use Rattle.cycle.specs.Run.{RunDone}
 use Rattle.refusal.specs.Number.{number_of}
 use Rattle.refusal.specs.declared.Refusal.{Refusal}
 use Rattle.writer.specs.Write.{written_answer, written_over, WriteDone, WriteTold, write_told}

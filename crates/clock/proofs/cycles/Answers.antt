@@ -118,15 +118,15 @@ loop-c-preserved c =
     let join = c.if-length-gt0 in
     let g : SFits w32 c.unwrap_or.result = search rules in
     let link : token join.link.0 ≡ arriving (channel_in img s i) =
-    arriving-read img net s fit i h _ e join.link.0
+    arriving-read img s i _ e join.link.0
     (elim c.if-length-gt0.branch [
       | then-length-gt0 w ↦ inl (omega arith, ap (λ (p : Link × Bool). p.0) w.link-is ∙ w.link.ensures)
       | else-length-gt0 w ↦
           let f : SFits w32 (get_or s.nodes (read_at c.wires_of-wires.result i).from no_node).value = search rules in
-          inr (omega arith, source_read img net s fit i h _ e _ _ (ap (λ (p : Link × Bool). p.0) w.link-is ∙ w.then_some.ensures) (to_z-of_z f))
+          inr (omega arith, source_read img s i _ e _ _ (ap (λ (p : Link × Bool). p.0) w.link-is ∙ w.then_some.ensures) (to_z-of_z f))
     ]) in
     let stop : join.link.1 ≡ stop_in img s i 0 =
-    stop_read img net s fit i h _ e 0 join.link.1
+    stop_read img s i _ e 0 join.link.1
     (elim c.if-length-gt0.branch [
       | then-length-gt0 w ↦ inl (omega arith, ap (λ (p : Link × Bool). p.1) w.link-is ∙ w.full.ensures ∙ first_place s i)
       | else-length-gt0 w ↦ inr (omega arith, ap (λ (p : Link × Bool). p.1) w.link-is ∙ w.full-else-length-gt0.ensures ∙ full-read img net s fit i h _ e)
@@ -207,7 +207,7 @@ loop-j-init c =
     let f : SFits w32 (get_or s.nodes (read_at c.wires_of-wires.result i).from no_node).value = search rules in (
       omega arith,
       l.invariant.1 ∙ ap (moved_below img w s s.cycles (nodes_below img w s c.nodes-nodes.result) i) (sym (add-zero (8 * i))),
-      source_read img net s fit i h _ e _ _ c.then_some-link.ensures (to_z-of_z f),
+      source_read img s i _ e _ _ c.then_some-link.ensures (to_z-of_z f),
     )
 
 pub loop-j-preserved : goal.loop-j-preserved
@@ -224,7 +224,7 @@ loop-j-preserved c =
     let join = c.if-j-length in
     let inside : l.j < (read_at c.wires_of-wires.result i).stations = omega arith in
     let stop : join.below ≡ stop_in img s i (l.j + 1) =
-    stop_read img net s fit i h _ e (l.j + 1) join.below
+    stop_read img s i _ e (l.j + 1) join.below
     (elim c.if-j-length.branch [
       | then-j-length w' ↦ inl (omega arith, w'.below-is ∙ w'.full-below.ensures)
       | else-j-length w' ↦ inr (omega arith, w'.below-is ∙ c.full-full.ensures ∙ full-read img net s fit i h _ e)
@@ -233,7 +233,7 @@ loop-j-preserved c =
     ∙ station-read img net s fit i h _ e w l.j inside l.link join.below l.invariant.2 (rw add-one at stop) in (
       omega arith,
       row_turn img net s fit i h _ e w s.cycles (nodes_below img w s c.nodes-nodes.result) l.j inside l.s l.invariant.1 _ next,
-      link_read img net s fit i h _ e l.j inside c.link-link.result c.link-link.ensures,
+      link_read img s i _ e l.j inside c.link-link.result c.link-link.ensures,
     )
 
 pub loop-c-2-preserved : goal.loop-c-2-preserved
@@ -254,7 +254,7 @@ loop-c-2-preserved c =
     let full = c.full-full.ensures ∙ full-read img net s fit i h _ e in
     let link = last_read img net s fit i h _ e w l.link (l.invariant.2 ∙ ap (link_in img s i) end) in
     let stop : c.if-length-gt0-2.stop ≡ stop_in img s i 0 =
-    stop_read img net s fit i h _ e 0 c.if-length-gt0-2.stop
+    stop_read img s i _ e 0 c.if-length-gt0-2.stop
     (elim c.if-length-gt0-2.branch [
       | then-length-gt0-2 w' ↦ inl (omega arith, w'.stop-is ∙ w'.full-stop.ensures ∙ first_place s i)
       | else-length-gt0-2 w' ↦ inr (omega arith, w'.stop-is ∙ full)

@@ -32,7 +32,7 @@ use Rattle.pearl.specs.Next.{next_value}
 use Rattle.node.specs.Kinds.{KindsBelow}
 use Rattle.shell.specs.declared.Queue.{Queue}
 use Rattle.shell.specs.Queue.{waiting, full, queue_after}
-use Rattle.shell.specs.Laws.Queue.{after_idle}
+use Rattle.shell.specs.Laws.Queue.{full_waiting, after_idle}
 use Rattle.shell.specs.Channel.{blocked, pending_after, arriving, stop_below, channel_reading}
 use Rattle.state.specs.declared.Node.{Node}
 use Rattle.state.specs.declared.State.{State}
@@ -62,9 +62,8 @@ pub written :
     → set l n x ≡ table_over f (n + 1) old
 written f n old h l e x q = rw (e, q, add-one) (over_set f n old h)
 
--- ---- channel c, as it is read: `wire` has its fields
-module _ (img : List ℕ) (a : Accepted img) (s : State) (fit : Fitting img s) (c : ℕ) (h : c < channels img)
-    (wire : Wire) (e : wire ≡ wire_at img c) where
+-- ---- channel c of any state, as it is read: `wire` has its fields
+module _ (img : List ℕ) (s : State) (c : ℕ) (wire : Wire) (e : wire ≡ wire_at img c) where
   -- link 0, as the code reads it from the pending byte and the from node's value
   pub source_read :
       (link : Link) (v : ℤ) → link ≡ then_some (eqb (get_or s.pending c 0) 1) v → v ≡ (get_or s.nodes wire.from no_node).value
@@ -75,12 +74,6 @@ module _ (img : List ℕ) (a : Accepted img) (s : State) (fit : Fitting img s) (
       ∙ ap (λ (x : ℤ). token (then_some (eqb (get_or s.pending c 0) 1) x))
       (q ∙ ap (λ (w : Wire). (get_or s.nodes w.from no_node).value) e)
       ∙ link_source img s c
-
-  -- the stop of link r, as the code reads it from the queue's count
-  pub full-read : full wire.depth (get_or s.queues c no_queue).count ≡ stop_below (depth img c) (channel_in img s c)
-  unfolding wire_at queue_at stop_below
-  full-read =
-      ap (λ (w : Wire). full w.depth (get_or s.queues c no_queue).count) e ∙ ap (full (depth img c)) (queue_count img s fit c h)
 
   -- what link r shows, as the code reads it from the last station or from link 0
   pub arriving-read :
@@ -126,6 +119,24 @@ module _ (img : List ℕ) (a : Accepted img) (s : State) (fit : Fitting img s) (
       → reading link stop ≡ reading_at img s c
   unfolding reading_at channel_reading
   reading_read link stop p q = reading-token link stop ∙ rw (p, q)
+
+  -- the stop of link r, as the code reads it from the count of a queue of eight places
+  pub stop_shown :
+      Accepted img → c < channels img → length (get_or s.queues c no_queue).tokens ≡ 8
+      → full wire.depth (get_or s.queues c no_queue).count ≡ stop_below (depth img c) (channel_in img s c)
+  unfolding wire_at channel_in queue_at stop_below
+  stop_shown a h l =
+      ap (λ (w : Wire). full w.depth (get_or s.queues c no_queue).count) e
+      ∙ full_waiting (depth img c) (get_or s.queues c no_queue) l (a.queues c h).1
+
+-- ---- channel c of a state that fits
+module _ (img : List ℕ) (a : Accepted img) (s : State) (fit : Fitting img s) (c : ℕ) (h : c < channels img)
+    (wire : Wire) (e : wire ≡ wire_at img c) where
+  -- the stop of link r, as the code reads it from the queue's count
+  pub full-read : full wire.depth (get_or s.queues c no_queue).count ≡ stop_below (depth img c) (channel_in img s c)
+  unfolding wire_at queue_at stop_below
+  full-read =
+      ap (λ (w : Wire). full w.depth (get_or s.queues c no_queue).count) e ∙ ap (full (depth img c)) (queue_count img s fit c h)
 
   -- ---- the scan: one more channel
   pub starved_read :

@@ -46,9 +46,9 @@ signed_high n h = rw le-ltb
 pub signed_less : (n : ℕ) → 2 ^ 31 ≤ n → n < 2 ^ 32 → pos n -ℤ pos 4294967296 ≡ signed n
 signed_less n h l = sub_below n 4294967296 l ∙ sym (signed_high n h)
 
--- the signed number that 32 bits stand for fits 32 bits
-pub signed-fits : (n : ℕ) → n < 2 ^ 32 → SFits w32 (signed n)
-signed-fits n l =
+-- a signed number fits 32 bits, whatever number it is read from
+pub signed-fits : (n : ℕ) → SFits w32 (signed n)
+signed-fits n =
     ⊎_elim
     (λ (h : n < 2 ^ 31). rw (signed_low n h) (told (pos n) h))
     (λ (h : 2 ^ 31 ≤ n). rw (signed_high n h) (told (negsuc (2 ^ 32 - suc n)) (let k : 2 ^ 32 - suc n < 2 ^ 31 = omega arith in k)))

@@ -1,7 +1,9 @@
 -- Laws of queues, at every depth at once: what push, pop and a cycle do to the tokens held, and that unused places stay 0. Assumes nothing.
-use Rattle.std.specs.Prelude.{None, Some, is_some, unwrap_or, Bool, true, false, not, ◌&&◌, List, [], ◌∷◌, ◌++◌, ◌≡◌, refl, ℕ, suc, ◌+◌, ◌-◌, ◌<◌, ◌≤◌, ltb, ℤ, pos, length, get_or, drop, set}
+use Rattle.std.specs.Prelude.{None, Some, is_some, unwrap_or, Bool, true, false, not, ◌&&◌, List, [], ◌∷◌, ◌++◌, ◌≡◌, refl, ℕ, suc, ◌+◌, ◌-◌, ◌<◌, ◌≤◌, ltb, ℤ, pos, length, get_or, take, drop, set}
 use Rattle.std.specs.List.{copy_within}
-use Rattle.std.proofs.Common.{append-nil, subst, sym, ap, ap₂, ◌∙◌, not-suc-le-zero, arith, lt-ltb, ne_eqb, length-append, drop_of_length-le}
+use Rattle.std.proofs.Common.{⊎_elim, append-nil, subst, sym, ap, ap₂, ◌∙◌, not-suc-le-zero, arith, lt-ltb, ne_eqb, length-append, length-take, drop_of_length-le}
+use Rattle.std.proofs.lemmas.Bool.{lt-leb, le-leb}
+use Rattle.laws.specs.Laws.Cases.{lt-or-ge}
 use Rattle.laws.specs.Table.{table}
 use Rattle.laws.specs.Laws.Table.{table_own}
 use Rattle.laws.specs.Choice.{◌if◌else◌}
@@ -10,7 +12,7 @@ use Rattle.laws.specs.Laws.Lists.{take-padded, padded-set, padded-drop, stored-p
 use Rattle.relay.specs.Link.{Link, token, link_of, passing}
 use Rattle.relay.specs.Laws.Link.{link_take, link_first}
 use Rattle.shell.specs.declared.Queue.{Queue}
-use Rattle.shell.specs.Queue.{waiting, queue_of, pushed, popped, queue_after}
+use Rattle.shell.specs.Queue.{waiting, queue_of, full, pushed, popped, queue_after}
 
 -- the tokens that a queue was written from are those that it holds
 pub waiting_of : (xs : List ℤ) → waiting (queue_of xs) ≡ xs
@@ -27,6 +29,16 @@ unfolding waiting queue_of
 queue_own q h =
     ap₂ {C = Queue} (λ (t : List ℤ) (n : ℕ). record { tokens = t; count = n })
     (stored_own 8 (pos 0) q.tokens q.count h) (sym (waiting_count q h))
+
+-- a count that is over the eight places stops the link as eight do
+pub full_waiting : (depth : ℕ) (q : Queue) → length q.tokens ≡ 8 → depth ≤ 8 → full depth q.count ≡ full depth (length (waiting q))
+unfolding full waiting
+full_waiting depth q e h =
+    let long = length-take q.count q.tokens in
+    ⊎_elim
+    (λ (k : q.count < depth). rw (lt-leb depth q.count k, lt-leb depth (length (take q.count q.tokens)) (omega (arith, long))))
+    (λ (k : depth ≤ q.count). rw (le-leb depth q.count k, le-leb depth (length (take q.count q.tokens)) (omega (arith, long, e))))
+    (lt-or-ge q.count depth)
 
 -- a queue that was written from eight tokens at most has 0 in its unused places; by `after_of` it is so after a cycle too
 pub queue_stored : (xs : List ℤ) → length xs ≤ 8 → Stored 8 (pos 0) (queue_of xs).tokens (queue_of xs).count

@@ -18,9 +18,8 @@ use Rattle.state.specs.declared.State.{State}
 use Rattle.state.specs.State.{firings_at}
 use Rattle.cycle.specs.Cycle.{reading_at, state_after, letters_of, values_of}
 use Rattle.state.specs.Told.{Told}
-use Rattle.engine.specs.Answer.{step_number, number_of_step, step_answer, letters_written, values_written, state_number}
+use Rattle.engine.specs.Answer.{step_number, number_of_step, step_answer, letters_written, values_written, state_number, StepDone}
 use Rattle.engine.specs.Laws.Answer.{number_ok, state_ok}
-use Rattle.engine.specs.Done.{StepDone}
 use Rattle.text.specs.Lines.{line_text, closing_text, reading_in}
 use Rattle.writer.specs.Write.{written_answer, WriteDone, WriteTold, write_told}
 use Rattle.writer.specs.Laws.Write.{told_ok}

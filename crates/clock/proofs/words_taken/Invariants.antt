@@ -1,7 +1,7 @@
--- `engine::words_taken`: i words are taken, and then those that the rest gives.
+-- `clock::words_taken`: i words are taken, and then those that the rest gives.
 use Rattle.std.proofs.Common.{◌≡◌, ◌≤◌}
-use Rattle.engine.specs.Loops.Taken.{taken_from, taken_after}
-use Rattle.engine.proofs.words_taken.Given as goal
+use Rattle.cycle.specs.Loops.Taken.{taken_from, taken_after}
+use Rattle.clock.proofs.words_taken.Given as goal
 
 abbrev pub invariant-loop-i : goal.invariant-loop-i
 invariant-loop-i l = (l.i ≤ l.room) × (taken_from l.nodes l.cycles l.words ≡ taken_after l.nodes l.cycles l.words l.i)

@@ -1,18 +1,12 @@
 -- Which of its words a run takes, found out before it makes a cycle.
 use Rattle.std.specs.Prelude.{List, [], ◌∷◌, ℕ, suc, ◌+◌, eqb, drop}
 use Rattle.laws.specs.Choice.{◌if◌else◌}
-use Rattle.refusal.specs.Number.{number_if}
-use Rattle.engine.specs.declared.Taken.{Taken}
-use Rattle.engine.specs.Answer.{sets_above}
+use Rattle.cycle.specs.Run.{sets_above}
 
 -- how many words a run takes, and the number that ends them, 0 if none does
 pub record TakenTold : Type 0 where
   pub steps : ℕ
   pub number : ℕ
-
--- what the code's answer tells of the words that a run takes
-abbrev pub taken_told : Taken → TakenTold
-taken_told t = record { steps = t.steps; number = number_if t.stopped }
 
 -- the words that a run takes with one more before them
 unfoldable pub take_more : TakenTold → TakenTold

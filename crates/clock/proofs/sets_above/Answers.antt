@@ -1,11 +1,11 @@
--- `engine::sets_above` meets its contract. Assumes nothing.
+-- `clock::sets_above` meets its contract. Assumes nothing.
 use Rattle.std.proofs.Common.{◌≡◌, ◌<◌, ◌≤◌, ◌^◌, ◌/◌, arith, sym, rules, tests}
 use Rattle.std.specs.Prelude.{Option, Some, None, Bool, false, ℕ, not, eqb}
 use Rattle.std.specs.Option.{SomeIff, MatchOption}
 use native.Mathlib.Nat.{div-eq_of_lt, lt_of_lt_of_le}
 use lib.Pow.{pow_mono}
-use Rattle.engine.specs.Answer.{sets_above}
-use Rattle.engine.proofs.sets_above.Goals as goal
+use Rattle.cycle.specs.Run.{sets_above}
+use Rattle.clock.proofs.sets_above.Goals as goal
 
 -- a word has no bit from 64 on
 none_above : (word n : ℕ) → word < 2 ^ 64 → (n < 64 → ⊥) → sets_above n word ≡ false

@@ -1,8 +1,8 @@
--- `engine::words_taken` meets its contract. Assumes nothing.
+-- `clock::words_taken` meets its contract. Assumes nothing.
 use Rattle.std.proofs.Common.{◌≡◌, ◌+◌, length, sym, ◌∙◌, arith}
-use Rattle.engine.specs.Laws.Answer.{taken_first, taken_all, taken_22, taken_12, taken_next}
-use Rattle.engine.proofs.words_taken.Goals.{Else-i-room}
-use Rattle.engine.proofs.words_taken.Goals as goal
+use Rattle.cycle.specs.Laws.Run.{taken_first, taken_all, taken_22, taken_12, taken_next}
+use Rattle.clock.proofs.words_taken.Goals.{Else-i-room}
+use Rattle.clock.proofs.words_taken.Goals as goal
 
 -- a cycle is left for word i
 left : (c : Else-i-room) → c.args.cycles + c.loop-i.i ≡ 1000000 → ⊥

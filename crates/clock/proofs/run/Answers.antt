@@ -1,0 +1,68 @@
+-- `clock::run` meets its contract. Assumes nothing.
+use Rattle.std.proofs.Common.{◌≡◌, ℕ, ◌≤◌, ◌+◌, length, take, sym, ap, ◌∙◌, arith, length-take}
+use Rattle.image.specs.Image.{nodes}
+use Rattle.verdict.specs.Laws.Accepted.{accepted}
+use Rattle.state.specs.declared.State.{State}
+use Rattle.fitting.specs.Fitting.{Fitting}
+use Rattle.fitting.specs.Laws.Fits.{fitting}
+use Rattle.fitting.proofs.Shape.{shaped}
+use Rattle.cycle.specs.Cycle.{after}
+use Rattle.cycle.specs.Laws.Run.{run_21, run-made, ran_taken, taken_few}
+use Rattle.cycle.specs.Loops.Taken.{TakenTold, taken_from}
+use Rattle.clock.specs.Loops.Told.{taken_told}
+use Rattle.clock.proofs.run.Goals.{Else-not-fits, After-words_taken-taken}
+use Rattle.clock.proofs.run.Goals as goal
+
+pub returns-then-not-fits : goal.returns-then-not-fits
+returns-then-not-fits c =
+    let n = c.args.netlist in
+    record { answered = run_21 n.image.now c.args.state c.args.words.now n.accepted (sym c.fits.ensures ∙ c.if-not-fits.true) }
+
+fit : (c : Else-not-fits) → Fitting c.args.netlist.image.now c.args.state
+fit c =
+    let n = c.args.netlist in
+    fitting n.image.now (accepted n.image.now n.accepted) c.args.state (shaped c.args.state _ c.well_formed.1.0)
+    (sym c.fits.ensures ∙ c.if-not-fits.false)
+
+pub words_taken-taken-requires : goal.words_taken-taken-requires
+words_taken-taken-requires c = (fit (goal.at.words_taken-taken-requires c).Else-not-fits).cycled
+
+few : (c : After-words_taken-taken) → c.args.state.cycles ≤ 1000000 →
+    let a = c.args in
+    (c.words_taken-taken.result.steps ≤ length a.words.now) × (a.state.cycles + c.words_taken-taken.result.steps ≤ 1000000)
+few c h =
+    let a = c.args in
+    let e = ap (λ (t : TakenTold). t.steps) c.words_taken-taken.ensures in
+    let f = taken_few c.nodes.result a.state.cycles a.words.now h in
+    (omega (arith, e, f), omega (arith, e, f))
+
+pub overflow_cast-result : goal.overflow_cast-result
+overflow_cast-result c = omega (arith, few (goal.at.overflow_cast-result c).After-words_taken-taken (fit (goal.at.overflow_cast-result c).Else-not-fits).cycled)
+
+pub slice_bounds-cycles-end : goal.slice_bounds-cycles-end
+slice_bounds-cycles-end c =
+    let t = c.words_taken-taken.result.steps in
+    omega (arith, few (goal.at.slice_bounds-cycles-end c).After-words_taken-taken (fit (goal.at.slice_bounds-cycles-end c).Else-not-fits).cycled, length-take t c.args.words.now)
+
+pub cycles-last-requires-clause-fitting : goal.cycles-last-requires-clause-fitting
+cycles-last-requires-clause-fitting c = fit (goal.at.cycles-last-requires-clause-fitting c).Else-not-fits
+
+pub cycles-last-requires-clause-words_bound : goal.cycles-last-requires-clause-words_bound
+cycles-last-requires-clause-words_bound c =
+    let t = c.words_taken-taken.result.steps in
+    omega (arith, few (goal.at.cycles-last-requires-clause-words_bound c).After-words_taken-taken (fit (goal.at.cycles-last-requires-clause-words_bound c).Else-not-fits).cycled, length-take t c.args.words.now)
+
+pub returns : goal.returns
+returns c =
+    let a = c.args in
+    let img = a.netlist.image.now in
+    let words = a.words.now in
+    let t = c.words_taken-taken in
+    let k : taken_told t.result ≡ taken_from (nodes img) a.state.cycles words =
+    t.ensures ∙ ap (λ (n : ℕ). taken_from n a.state.cycles words) c.nodes.ensures.value in
+    record {
+      answered =
+          ap (λ (x : State). record { steps = t.result.steps; number = (taken_told t.result).number; state = x }) c.cycles-last.ensures
+          ∙ ap (λ (u : TakenTold). record { steps = u.steps; number = u.number; state = after img a.state (take u.steps words) }) k
+          ∙ ran_taken img words a.state ∙ run-made img a.state words a.netlist.accepted (sym c.fits.ensures ∙ c.if-not-fits.false);
+    }

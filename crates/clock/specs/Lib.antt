@@ -1,0 +1,3 @@
+-- What the answer of a run tells.
+pub mod Told
+pub mod Loops

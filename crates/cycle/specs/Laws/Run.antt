@@ -1,0 +1,111 @@
+-- What each way out of a run answers, and which cycles a run makes. Assumes nothing.
+use Rattle.std.specs.Prelude.{Bool, List, [], ◌∷◌, eqb, length, drop, take, get_or}
+use Rattle.std.proofs.Math.Bool.{true, false, true≢false}
+use Rattle.std.proofs.Math.Path.{◌≡◌, refl, sym}
+use Rattle.std.proofs.Common.{ap, ◌∙◌, add-zero, zero-add, drop_of_length-le, drop-cons}
+use Prim.Native.Nat.{ℕ, suc, ◌+◌, ◌<◌, ◌≤◌}
+use Rattle.std.proofs.Math.Numerals.{add-one}
+use native.Mathlib.Omega.{arith}
+use borrow.Author.Tests.{eq-eqb, ne_eqb}
+use Rattle.laws.specs.Choice.{◌if◌else◌}
+use Rattle.image.specs.Image.{nodes}
+use Rattle.verdict.specs.Judge.{judge}
+use Rattle.state.specs.declared.State.{State}
+use Rattle.state.specs.State.{state_of}
+use Rattle.cycle.specs.Cycle.{state_after, after}
+use Rattle.fitting.specs.Fits.{fits}
+use Rattle.cycle.specs.Run.{sets_above, step_more, ran_from, run_answer}
+use Rattle.cycle.specs.Loops.Taken.{TakenTold, take_more, taken_from, taken_after}
+
+-- ---- the run: the loop over its words, from the first on
+pub taken_first : (n d : ℕ) (words : List ℕ) → taken_from n d words ≡ taken_after n d words 0
+unfolding taken_after
+taken_first n d words = rw (add-zero, zero-add)
+
+-- a run all of whose words were found good takes them all
+pub taken_all : (n d : ℕ) (words : List ℕ) (i : ℕ) → length words ≤ i → taken_after n d words i ≡ record { steps = i; number = 0 }
+unfolding taken_after taken_from
+taken_all n d words i h = rw (drop_of_length-le words h, add-zero)
+
+module _ (n d : ℕ) (words : List ℕ) (i : ℕ) (h : i < length words) where
+  -- which words a run takes, by the word at place i
+  next_word :
+      taken_after n d words i ≡
+      (let t = record { steps = 0; number = 22 } if eqb (d + i) 1000000 else
+      record { steps = 0; number = 12 } if sets_above n (get_or words i 0) else
+      take_more (taken_from n (suc (d + i)) (drop (suc i) words)) in
+      record { steps = i + t.steps; number = t.number })
+  unfolding taken_after taken_from
+  next_word = rw (drop-cons words i 0 h)
+
+  pub taken_22 : d + i ≡ 1000000 → taken_after n d words i ≡ record { steps = i; number = 22 }
+  taken_22 e = next_word ∙ rw (eq-eqb (d + i) 1000000 e, add-zero)
+
+  pub taken_12 : (d + i ≡ 1000000 → ⊥) → sets_above n (get_or words i 0) ≡ true → taken_after n d words i ≡ record { steps = i; number = 12 }
+  taken_12 e w = next_word ∙ rw (ne_eqb (d + i) 1000000 e, w, add-zero)
+
+  pub taken_next : (d + i ≡ 1000000 → ⊥) → sets_above n (get_or words i 0) ≡ false → taken_after n d words i ≡ taken_after n d words (i + 1)
+  unfolding taken_after take_more
+  taken_next e w =
+      let t = taken_from n (suc (d + i)) (drop (suc i) words) in
+      let k : d + suc i ≡ suc (d + i) = omega arith in
+      let s : i + suc t.steps ≡ suc i + t.steps = omega arith in
+      next_word ∙ rw (ne_eqb (d + i) 1000000 e, w, add-one i, k, s)
+
+-- a run takes no more words than there are, nor than cycles are left
+pub taken_few :
+    (n d : ℕ) (words : List ℕ) → d ≤ 1000000 → let t = taken_from n d words in (t.steps ≤ length words) × (d + t.steps ≤ 1000000)
+unfolding taken_from take_more
+taken_few n d [] h = (omega arith, omega arith)
+taken_few n d (word ∷ words) h = go (eqb d 1000000) (sets_above n word) refl (λ l. taken_few n (suc d) words l)
+  where
+    t : TakenTold
+    t = taken_from n (suc d) words
+
+    go :
+        (a b : Bool) → eqb d 1000000 ≡ a → (suc d ≤ 1000000 → (t.steps ≤ length words) × (suc d + t.steps ≤ 1000000))
+        → let u = record { steps = 0; number = 22 } if a else record { steps = 0; number = 12 } if b else take_more t in
+        (u.steps ≤ suc (length words)) × (d + u.steps ≤ 1000000)
+    go true b e r = (omega arith, omega arith)
+    go false true e r = (omega arith, omega arith)
+    go false false e r =
+        let n : d ≡ 1000000 → ⊥ = λ q. true≢false (sym (eq-eqb d 1000000 q) ∙ e) in
+        let k : suc d ≤ 1000000 = omega (arith, n) in
+        (omega (arith, r k), omega (arith, r k))
+
+-- a run is told by the words that it takes and the state after their cycles
+pub ran_taken :
+    (img : List ℕ) (words : List ℕ) (s : State)
+    → let t = taken_from (nodes img) s.cycles words in
+    record { steps = t.steps; number = t.number; state = after img s (take t.steps words) } ≡ ran_from img s words
+unfolding taken_from ran_from after take_more step_more state_after state_of
+ran_taken img [] s = refl
+ran_taken img (word ∷ words) s = go (eqb s.cycles 1000000) (sets_above (nodes img) word) (ran_taken img words (state_after img word s))
+  where
+    t : TakenTold
+    t = taken_from (nodes img) (suc s.cycles) words
+
+    go :
+        (a b : Bool) → record { steps = t.steps; number = t.number; state = after img (state_after img word s) (take t.steps words) }
+        ≡ ran_from img (state_after img word s) words
+        → let u = record { steps = 0; number = 22 } if a else record { steps = 0; number = 12 } if b else take_more t in
+        record { steps = u.steps; number = u.number; state = after img s (take u.steps (word ∷ words)) } ≡
+        (record { steps = 0; number = 22; state = s } if a else record { steps = 0; number = 12; state = s } if b else
+        step_more (ran_from img (state_after img word s) words))
+    go true b e = refl
+    go false true e = refl
+    go false false e = ap step_more e
+
+-- what a run returns: where the judge refuses the image, where the state does not fit it, and where it takes its words
+module _ (img : List ℕ) (s : State) (words : List ℕ) where
+  pub run_judged : (judge img ≡ 0 → ⊥) → record { steps = 0; number = judge img; state = s } ≡ run_answer img s words
+  unfolding run_answer
+  run_judged n = rw (ne_eqb (judge img) 0 n)
+
+  pub run_21 : judge img ≡ 0 → fits img s ≡ false → record { steps = 0; number = 21; state = s } ≡ run_answer img s words
+  unfolding run_answer
+  run_21 j e = rw (j, e)
+
+  pub run-made : judge img ≡ 0 → fits img s ≡ true → ran_from img s words ≡ run_answer img s words
+  unfolding run_answer
+  run-made j e = rw (j, e)

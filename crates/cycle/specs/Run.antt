@@ -1,0 +1,42 @@
+-- The run: "The run takes words in order and stops at the first refusal."
+use Rattle.std.specs.Prelude.{Bool, not, List, [], ◌∷◌, ◌≡◌, ℕ, suc, ◌/◌, ◌^◌, eqb}
+use Rattle.laws.specs.Choice.{◌if◌else◌}
+use Rattle.image.specs.Image.{nodes}
+use Rattle.verdict.specs.Judge.{judge}
+use Rattle.state.specs.declared.State.{State}
+use Rattle.fitting.specs.Fits.{fits}
+use Rattle.cycle.specs.Cycle.{state_after}
+
+-- 12, "stall word sets a bit at or above N": the word's bits from n on are not all 0
+unfoldable pub sets_above : ℕ → ℕ → Bool
+sets_above n word = not (eqb (word / 2 ^ n) 0)
+
+-- what a run returns: the steps done, its number, 0 if it came to the end of its words, and the state after those steps
+pub record RunTold : Type 0 where
+  pub steps : ℕ
+  pub number : ℕ
+  pub state : State
+
+-- what a run returns with one step more, made before those that it counts
+unfoldable pub step_more : RunTold → RunTold
+step_more r = record { steps = suc r.steps; number = r.number; state = r.state }
+
+-- what a run returns from a state that fits. "It returns the steps done, the state after them, and the number or 0." "then 22 and 12 before each
+-- word"
+unfoldable pub ran_from : List ℕ → State → List ℕ → RunTold
+ran_from img s [] = record { steps = 0; number = 0; state = s }
+ran_from img s (word ∷ words) =
+    record { steps = 0; number = 22; state = s } if eqb s.cycles 1000000 else
+    record { steps = 0; number = 12; state = s } if sets_above (nodes img) word else
+    step_more (ran_from img (state_after img word s) words)
+
+-- what a run returns, whatever image and state are: "The run checks the image and 21 once"
+unfoldable pub run_answer : List ℕ → State → List ℕ → RunTold
+run_answer img s words =
+    record { steps = 0; number = judge img; state = s } if not (eqb (judge img) 0) else
+    record { steps = 0; number = 21; state = s } if not (fits img s) else
+    ran_from img s words
+
+-- what a run has done: each contract of one ensures this record
+pub record RunDone (img : List ℕ) (s : State) (words : List ℕ) (answer : RunTold) : Type 0 where
+  pub answered : answer ≡ run_answer img s words
