@@ -7,8 +7,14 @@ use Rattle.std.specs.Int.Signed.{mag, lt_z}
 use Rattle.std.specs.Int.{w32, int_wrapping_add, int_wrapping_sub, int_wrapping_neg, int_wrap}
 use Rattle.std.proofs.lemmas.Int.{wrapping_add_is, wrapping_sub_is, wrapping_neg_is}
 use Rattle.laws.specs.Signed.{signed}
-use Rattle.laws.specs.Laws.Signed.{sub_below, sub_above, signed_low, signed_high}
+use Rattle.laws.specs.Laws.Signed.{sub_below, sub_above, signed_low, signed_high, signed-fits}
 use Rattle.pearl.specs.Wrap.{wrap}
+
+-- what is wrapped fits 32 bits
+pub wrap_range : (z : ℤ) → SFits w32 (wrap z)
+unfolding wrap
+wrap_range (pos n) = signed-fits (n % 2 ^ 32)
+wrap_range (negsuc n) = signed-fits (2 ^ 32 - suc (n % 2 ^ 32))
 
 -- a number that fits 32 bits is wrapped to itself
 pub wrap-fits : (z : ℤ) → SFits w32 z → wrap z ≡ z
