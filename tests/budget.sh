@@ -14,7 +14,7 @@ program=60
 all=4000
 more=' capi:240 clock:240 trace:220 test_engine:100 '
 # These asked something of their caller before the rule; no other does.
-asking=' clock::cycles readings::show writer::put_all writer::put_bytes '
+asking=' clock::cycles readings::show '
 
 # watch FILE: a line for each check that runs, three times a second: what tells it from others, its crate, what it is
 # for, and its hundredths of a second so far. An edit is checked over what the crate's own check left.

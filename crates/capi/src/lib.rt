@@ -118,13 +118,9 @@ pub fn channel_bench_strict(image: &[u8], cycle: u32, values: &mut [i32]) -> u8
 pub fn channel_bench_header_line(out: &mut [u8], length: &mut usize) -> u8
     ensures { TextCall header out.old result length.new out.new }
 {
-    let line = text::header();
-    *length = 0;
-    if out.len() < line.len() {
-        return Refusal::Room.number();
-    }
-    *length = writer::put_bytes(&line, out, 0);
-    0
+    let line = text::header_line(out);
+    *length = line.unwrap_or(0);
+    number(line)
 }
 
 // Returns 0, given an image, a state that fits it, a stall word and room for the line, and leaves the

@@ -1,15 +1,18 @@
-// A state and station records as bytes, written to the first places of what is lent. A writer of a part
-// is given a place with enough room behind it; the answer is the place after the part.
+// A state and station records as bytes, written to the first places of what is lent.
 //
 // Both writers are total: they answer how many bytes were written, or 13 where too few are lent, and
 // then write nothing (`WriteDone`, as the lines of a trace do). They store part by part with `Put`,
-// each part from the place after the one before. What they write has the same length for every state,
-// since the definitions count places and not the elements of a list (`each node_bytes (node_at s)
-// 64`): no fact about a state is needed to say where a part stands.
+// each part from the place after the one before. A writer of a part is given a place with enough room
+// behind it, and so is private; the answer is the place after the part. One loop writes items, whatever
+// they are (`put_all`): each kind is `Bytes`, a trait with its ghost bytes.
+//
+// What they write has the same length for every state, since the definitions count places and not the
+// elements of a list (`each node_bytes (node_at s) 64`): no fact about a state is needed to say where a
+// part stands.
 #![tactic(auto)]
 
-ghost use mathlib.Core.List.{flat_map, ◌++◌};
-ghost use Rattle.std.specs.Prelude.{[], ◌∷◌, ◌≡◌, ◌+◌, ◌≤◌, length};
+ghost use mathlib.Core.List.{List, flat_map, ◌++◌};
+ghost use Rattle.std.specs.Prelude.{[], ◌∷◌, ◌≡◌, ℕ, ◌+◌, ◌≤◌, length};
 ghost use Rattle.writer.specs.Put.{Put};
 ghost use Rattle.writer.specs.Write.{WriteDone};
 ghost use Rattle.layout.specs.Bytes.{number_bytes, token_bytes, node_bytes, station_bytes, queue_bytes, state_bytes, state_length};
@@ -19,24 +22,56 @@ use refusal::Refusal;
 use relay::Station;
 use shell::Queue;
 use state::{Node, State};
-use writer::Text;
+
+// A way to write items of a type as bytes, each from a place of a slice on.
+trait Bytes<T: Copy> {
+    ghost bytes: { T → List ℕ };
+
+    fn put(item: T, out: &mut [u8], at: usize) -> usize
+        requires { at + length (bytes item) ≤ length out.old }
+        ensures { Put (bytes item) at out.old out.new result };
+}
+
+// Stores items one after another, and tells the place after them.
+#[tactic(auto, using(writer::specs::Laws::Items::put_inside))]
+fn put_all<F: Bytes<T>, T: Copy>(items: &[T], out: &mut [u8], at: usize) -> usize
+    requires { at + length (flat_map F.bytes items.now) ≤ length out.old }
+    ensures { Put (flat_map F.bytes items.now) at out.old out.new result }
+{
+    let mut end = at;
+    for item in items {
+        end = F::put(*item, out, end);
+    }
+    end
+}
+
+// Stores bytes, and tells the place after them.
+#[tactic(auto, using(writer::specs::Laws::Put::put_part))]
+fn put_bytes(bytes: &[u8], out: &mut [u8], at: usize) -> usize
+    requires { at + length bytes.now ≤ length out.old }
+    ensures { Put bytes.now at out.old out.new result }
+{
+    let end = at + bytes.len();
+    out[at..end].copy_from_slice(bytes);
+    end
+}
 
 // Numbers of 32 bits as bytes.
 struct Numbers;
 
-impl Text<u32> for Numbers {
-    ghost text = { number_bytes };
+impl Bytes<u32> for Numbers {
+    ghost bytes = { number_bytes };
 
     fn put(item: u32, out: &mut [u8], at: usize) -> usize {
-        writer::put_bytes(&item.to_le_bytes(), out, at)
+        put_bytes(&item.to_le_bytes(), out, at)
     }
 }
 
 // Tokens as bytes.
 struct Tokens;
 
-impl Text<i32> for Tokens {
-    ghost text = { token_bytes };
+impl Bytes<i32> for Tokens {
+    ghost bytes = { token_bytes };
 
     fn put(item: i32, out: &mut [u8], at: usize) -> usize {
         Numbers::put(item.cast_unsigned(), out, at)
@@ -45,8 +80,8 @@ impl Text<i32> for Tokens {
 
 struct Nodes;
 
-impl Text<Node> for Nodes {
-    ghost text = { node_bytes };
+impl Bytes<Node> for Nodes {
+    ghost bytes = { node_bytes };
 
     fn put(item: Node, out: &mut [u8], at: usize) -> usize {
         let firings = Tokens::put(item.value, out, at);
@@ -60,15 +95,15 @@ fn put_counted(tokens: &[i32], count: u8, out: &mut [u8], at: usize) -> usize
     requires { at + length (flat_map token_bytes tokens.now ++ (count ∷ [])) ≤ length out.old }
     ensures { Put (flat_map token_bytes tokens.now ++ (count ∷ [])) at out.old out.new result }
 {
-    let end = writer::put_all::<Tokens, i32>(tokens, out, at);
+    let end = put_all::<Tokens, i32>(tokens, out, at);
     out[end] = count;
     end + 1
 }
 
 struct Stations;
 
-impl Text<Station> for Stations {
-    ghost text = { station_bytes };
+impl Bytes<Station> for Stations {
+    ghost bytes = { station_bytes };
 
     fn put(item: Station, out: &mut [u8], at: usize) -> usize {
         let tokens = item.tokens;
@@ -78,8 +113,8 @@ impl Text<Station> for Stations {
 
 struct Queues;
 
-impl Text<Queue> for Queues {
-    ghost text = { queue_bytes };
+impl Bytes<Queue> for Queues {
+    ghost bytes = { queue_bytes };
 
     fn put(item: Queue, out: &mut [u8], at: usize) -> usize {
         let tokens = item.tokens;
@@ -97,10 +132,10 @@ fn put_parts(state: State, out: &mut [u8]) -> usize
     let stations = state.stations;
     let queues = state.queues;
     let first = Numbers::put(state.cycles, out, 0);
-    let second = writer::put_all::<Nodes, Node>(&nodes, out, first);
-    let third = writer::put_bytes(&pending, out, second);
-    let fourth = writer::put_all::<Stations, Station>(&stations, out, third);
-    writer::put_all::<Queues, Queue>(&queues, out, fourth)
+    let second = put_all::<Nodes, Node>(&nodes, out, first);
+    let third = put_bytes(&pending, out, second);
+    let fourth = put_all::<Stations, Station>(&stations, out, third);
+    put_all::<Queues, Queue>(&queues, out, fourth)
 }
 
 // Returns how many bytes a state takes, and leaves it at the start of `out`, given room for it. Refused
@@ -122,5 +157,5 @@ pub fn put_records(records: &[Station], out: &mut [u8]) -> Result<usize, Refusal
     if out.len() / RECORD < records.len() {
         return Err(Refusal::Room);
     }
-    Ok(writer::put_all::<Stations, Station>(records, out, 0))
+    Ok(put_all::<Stations, Station>(records, out, 0))
 }

@@ -8,9 +8,11 @@
 // A line is two parts and a line feed: the cycle's number and the channels' readings, or a label and
 // numbers. A writer first measures both parts (their lengths are taken from the room, cut off at 0:
 // `room_after`) and refuses with 13 if nothing is left for the line feed; then it stores them one
-// after the other. Digits come from `io::decimal`; `digits_decimal` says that they are `decimal`.
-// Measuring also gives how much room is always enough, since a value of 32 bits takes 11 bytes at
-// most: the second half of each writer's contract.
+// after the other (`line`). The header is the same bytes in every trace, and stands as they are. What
+// goes into a line is a `Text`, a trait with its ghost text, which is measured and stored item by item.
+// Digits come from `io::decimal`; `digits_decimal` says that they are `decimal`. Measuring also gives
+// how much room is always enough, since a value of 32 bits takes 11 bytes at most: the second clause of
+// a writer's contract.
 //
 // Whoever checks or converts traces and has no engine takes this crate alone: `trace_text` is the form
 // of a trace, whoever printed it.
@@ -28,18 +30,24 @@ ghost use Rattle.writer.specs.Put.{Put};
 
 use refusal::Refusal;
 use relay::Reading;
-use writer::{Text, put_all, put_bytes};
 
-// A way to write items that tells how many bytes an item takes, and how many at most.
-trait Measured<T: Copy>: Text<T> {
+// A way to write items of a type as text, each from a place of a slice on. It tells how many bytes an
+// item takes, and how many at most.
+trait Text<T: Copy> {
+    ghost text: { T → List ℕ };
+
     ghost longest: { ℕ };
 
     fn size(item: T) -> usize
-        ensures { (result ≡ length (Self.text item)) × (result ≤ longest) };
+        ensures { (result ≡ length (text item)) × (result ≤ longest) };
+
+    fn put(item: T, out: &mut [u8], at: usize) -> usize
+        requires { at + length (text item) ≤ length out.old }
+        ensures { Put (text item) at out.old out.new result };
 }
 
 // What items leave of a room, 0 where it does not suffice.
-fn room_after<F: Measured<T>, T: Copy>(room: usize, items: &[T]) -> usize
+fn room_after<F: Text<T>, T: Copy>(room: usize, items: &[T]) -> usize
     ensures value { result ≡ room - length (flat_map F.text items.now) }
     ensures room_bound { room ≤ result + F.longest * length items.now }
 {
@@ -48,6 +56,17 @@ fn room_after<F: Measured<T>, T: Copy>(room: usize, items: &[T]) -> usize
         left = left.saturating_sub(F::size(*item));
     }
     left
+}
+
+// Stores bytes, and tells the place after them.
+#[tactic(auto, using(writer::specs::Laws::Put::put_part))]
+fn put_bytes(bytes: &[u8], out: &mut [u8], at: usize) -> usize
+    requires { at + length bytes.now ≤ length out.old }
+    ensures { Put bytes.now at out.old out.new result }
+{
+    let end = at + bytes.len();
+    out[at..end].copy_from_slice(bytes);
+    end
 }
 
 #[tactic(auto, using(crate::specs::Laws::Decimal::digits_decimal))]
@@ -104,6 +123,16 @@ struct Readings;
 impl Text<Reading> for Readings {
     ghost text = { reading_text };
 
+    ghost longest = { 13 };
+
+    #[tactic(auto, unfolding(crate::specs::Lines::reading_text))]
+    fn size(item: Reading) -> usize {
+        if shows_value(item.letter) {
+            return 2 + signed_length(item.value);
+        }
+        2
+    }
+
     #[tactic(auto, using(writer::specs::Laws::Put::put_steps), unfolding(crate::specs::Lines::reading_text))]
     fn put(item: Reading, out: &mut [u8], at: usize) -> usize {
         out[at] = b' ';
@@ -115,36 +144,22 @@ impl Text<Reading> for Readings {
     }
 }
 
-impl Measured<Reading> for Readings {
-    ghost longest = { 13 };
-
-    #[tactic(auto, unfolding(crate::specs::Lines::reading_text))]
-    fn size(item: Reading) -> usize {
-        if shows_value(item.letter) {
-            return 2 + signed_length(item.value);
-        }
-        2
-    }
-}
-
 // The numbers of a labelled line.
 struct Counts;
 
 impl Text<u32> for Counts {
     ghost text = { count_text };
 
-    #[tactic(auto, using(writer::specs::Laws::Put::put_steps), unfolding(crate::specs::Lines::count_text))]
-    fn put(item: u32, out: &mut [u8], at: usize) -> usize {
-        out[at] = b' ';
-        put_decimal(item as u64, out, at + 1)
-    }
-}
-
-impl Measured<u32> for Counts {
     ghost longest = { 11 };
 
     fn size(item: u32) -> usize {
         1 + digits(item as u64)
+    }
+
+    #[tactic(auto, using(writer::specs::Laws::Put::put_steps), unfolding(crate::specs::Lines::count_text))]
+    fn put(item: u32, out: &mut [u8], at: usize) -> usize {
+        out[at] = b' ';
+        put_decimal(item as u64, out, at + 1)
     }
 }
 
@@ -159,12 +174,20 @@ pub fn header() -> [u8; 13]
     *b"cycle states\n"
 }
 
+// Returns how long the header line is, and leaves it at the start of `out`. Refused by 13 where `out` is
+// shorter than the line: then nothing is written.
+pub fn header_line(out: &mut [u8]) -> Result<usize, Refusal>
+    ensures { WriteDone header out.old result out.new }
+{
+    let line = header();
+    if out.len() < line.len() {
+        return Err(Refusal::Room);
+    }
+    Ok(put_bytes(&line, out, 0))
+}
+
 // A line that begins with `first` and goes on with the items.
-fn line<F: Measured<T>, T: Copy>(
-    first: &[u8],
-    items: &[T],
-    out: &mut [u8],
-) -> Result<usize, Refusal>
+fn line<F: Text<T>, T: Copy>(first: &[u8], items: &[T], out: &mut [u8]) -> Result<usize, Refusal>
     ensures write_done { WriteDone (first.now ++ (flat_map F.text items.now ++ ascii "\n")) out.old result out.new }
     ensures number_value { length first.now + F.longest * length items.now < length out.old → number_of result ≡ 0 }
 {
@@ -172,10 +195,12 @@ fn line<F: Measured<T>, T: Copy>(
     if room_after::<F, T>(room, items) == 0 {
         return Err(Refusal::Room);
     }
-    let middle = put_bytes(first, out, 0);
-    let last = put_all::<F, T>(items, out, middle);
-    out[last] = b'\n';
-    Ok(last + 1)
+    let mut end = put_bytes(first, out, 0);
+    for item in items {
+        end = F::put(*item, out, end);
+    }
+    out[end] = b'\n';
+    Ok(end + 1)
 }
 
 // Returns how long a cycle's line is, given the cycle's number and each channel's reading, and leaves

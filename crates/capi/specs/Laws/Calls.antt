@@ -20,13 +20,13 @@ use Rattle.engine.specs.Laws.Answer.{number_ok, state_ok, run_none}
 use Rattle.cycle.specs.Run.{RunDone}
 use Rattle.refusal.specs.Number.{number_of}
 use Rattle.refusal.specs.declared.Refusal.{Refusal}
-use Rattle.writer.specs.Write.{written_answer, written_over, WriteDone, WriteTold, write_told}
+use Rattle.writer.specs.Write.{written_answer, written_over, WriteDone, WriteTold}
 use Rattle.writer.specs.Laws.Write.{write_done}
 use Rattle.tracer.specs.Laws.Done.{line_made}
 use Rattle.tracer.specs.Done.{LineTold, line_answer, LineDone, ClosingDone}
 use Rattle.layout.specs.Bytes.{state_bytes, state_length, state_in, no_state}
 use Rattle.layout.specs.Laws.Bytes.{all_stored, state_long}
-use Rattle.capi.specs.Calls.{fresh_number, fresh_over, state_left, FreshCall, StepCall, RunCall, LineCall, ClosingCall, TextCall}
+use Rattle.capi.specs.Calls.{fresh_number, fresh_over, state_left, FreshCall, StepCall, RunCall, LineCall, ClosingCall}
 
 -- ---- bytes of another length than a state's
 module _ (img bytes : List ℕ) where
@@ -202,15 +202,5 @@ closing_called bytes d =
     record {
       numbered = ap (λ (a : WriteTold). a.number) d.answered;
       measured = ap (λ (a : WriteTold). a.length) d.answered;
-      over = d.over;
-    }
-
-pub text-called :
-    {text out : List ℕ} {answer : Result ℕ Refusal} {out_left : List ℕ} → WriteDone text out answer out_left
-    → TextCall text out (write_told answer).number (write_told answer).length out_left
-text-called d =
-    record {
-      numbered = ap (λ a. (write_told a).number) d.answered;
-      measured = ap (λ a. (write_told a).length) d.answered;
       over = d.over;
     }

@@ -14,7 +14,7 @@ loop-item-init g c = (omega arith, omega arith, omega arith)
 pub loop-item-preserved : goal.loop-item-preserved
 loop-item-preserved g c =
     let l = c.loop-item in
-    let longest = g.F.Measured.longest in
+    let longest = g.F.Text.longest in
     let e = room_more g.F.Text.text c.args.items.now l.item-index _ c.loop-item-test.true c.item-item.is c.args.room in
     let m : longest * (l.item-index + 1) ≡ longest * l.item-index + longest = rw (add-one, mul-suc) in (
       omega arith,

@@ -7,4 +7,4 @@ use Rattle.text.proofs.room_after.Given as goal
 
 abbrev pub invariant-loop-item : goal.invariant-loop-item
 invariant-loop-item g l =
-    (l.item-index ≤ length l.items) × (l.left ≡ l.room - length (flat_map g.F.Text.text (take l.item-index l.items))) × (l.room ≤ l.left + g.F.Measured.longest * l.item-index)
+    (l.item-index ≤ length l.items) × (l.left ≡ l.room - length (flat_map g.F.Text.text (take l.item-index l.items))) × (l.room ≤ l.left + g.F.Text.longest * l.item-index)

@@ -1,5 +1,5 @@
 -- What a writer answers, where the slice is too short and where it is not. Assumes nothing.
-use Rattle.std.specs.Prelude.{List, [], ◌∷◌, ◌++◌, true, false, ◌≡◌, refl, ℕ, ◌+◌, ◌-◌, ◌≤◌, ◌<◌, set, Result, Ok, Err}
+use Rattle.std.specs.Prelude.{List, ◌++◌, true, false, ◌≡◌, refl, ℕ, ◌≤◌, ◌<◌, Result, Ok, Err}
 use Rattle.std.proofs.Math.Logic.{⊎_elim}
 use Rattle.std.proofs.Math.Path.{sym}
 use Rattle.std.proofs.Common.{ap, ◌∙◌, arith, take_at}

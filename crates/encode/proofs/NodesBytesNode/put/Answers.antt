@@ -7,7 +7,7 @@ use mir.Facts.{to_z-of_z}
 use Rattle.writer.specs.Laws.Put.{put-after, put_long}
 use Rattle.layout.specs.Bytes.{node_bytes}
 use Rattle.layout.specs.Laws.Bytes.{number_long, token_long, node_long}
-use Rattle.encode.proofs.NodesTextNode.put.Goals as goal
+use Rattle.encode.proofs.NodesBytesNode.put.Goals as goal
 
 pub put-firings-requires : goal.put-firings-requires
 put-firings-requires c = rw token_long (omega (arith, node_long c.args.item))

@@ -2,7 +2,7 @@
 use native.Mathlib.Omega.{arith}
 use Rattle.text.specs.Laws.Decimal.{decimal_short}
 use Rattle.text.specs.Lines.{count_text}
-use Rattle.text.proofs.CountsMeasuredU32.size.Goals as goal
+use Rattle.text.proofs.CountsTextU32.size.Goals as goal
 
 pub returns : goal.returns
 unfolding count_text

@@ -4,7 +4,7 @@ use borrow.Author.Rules.{rules}
 use lib.ListN.{length}
 use Rattle.layout.specs.Bytes.{queue_bytes}
 use Rattle.layout.specs.Laws.Bytes.{tokens_own}
-use Rattle.encode.proofs.QueuesTextQueue.put.Goals as goal
+use Rattle.encode.proofs.QueuesBytesQueue.put.Goals as goal
 
 pub put_counted-requires : goal.put_counted-requires
 unfolding queue_bytes

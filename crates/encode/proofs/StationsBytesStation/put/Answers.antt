@@ -4,7 +4,7 @@ use borrow.Author.Rules.{rules}
 use lib.ListN.{length}
 use Rattle.layout.specs.Bytes.{station_bytes}
 use Rattle.layout.specs.Laws.Bytes.{tokens_own}
-use Rattle.encode.proofs.StationsTextStation.put.Goals as goal
+use Rattle.encode.proofs.StationsBytesStation.put.Goals as goal
 
 pub put_counted-requires : goal.put_counted-requires
 unfolding station_bytes

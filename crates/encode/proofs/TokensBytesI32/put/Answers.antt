@@ -4,7 +4,7 @@ use native.Mathlib.Omega.{arith}
 use mir.Facts.{to_z-of_z}
 use Rattle.layout.specs.Bytes.{bits_of, token_bytes}
 use Rattle.layout.specs.Laws.Bytes.{bits_same, number_long, token_long}
-use Rattle.encode.proofs.TokensTextI32.put.Goals as goal
+use Rattle.encode.proofs.TokensBytesI32.put.Goals as goal
 
 pub put-requires : goal.put-requires
 put-requires c = omega (arith, number_long c.cast_unsigned.result, token_long c.args.item)

@@ -4,7 +4,7 @@ use native.Mathlib.Omega.{arith}
 use lib.ListN.{length}
 use Rattle.layout.specs.Bytes.{number_bytes}
 use Rattle.layout.specs.Laws.Bytes.{number_long}
-use Rattle.encode.proofs.NumbersTextU32.put.Goals as goal
+use Rattle.encode.proofs.NumbersBytesU32.put.Goals as goal
 
 pub put_bytes-requires : goal.put_bytes-requires
 put_bytes-requires c = let e : length c.to_le_bytes.result ≡ 4 = ap length c.to_le_bytes.ensures in omega (arith, e, number_long c.args.item)
