@@ -1,5 +1,5 @@
 -- Every value that a state holds is a signed number of 32 bits: so it is in the fresh state of any image, and so it stays. Assumes nothing.
-use Rattle.std.specs.Prelude.{is_some, unwrap_or, Bool, true, false, List, [], ◌∷◌, ◌++◌, ◌≡◌, ℕ, ◌<◌, ℤ, pos, drop}
+use Rattle.std.specs.Prelude.{unwrap_or, Bool, true, false, List, [], ℕ, ◌<◌, ℤ, pos}
 use Rattle.std.specs.List.{All}
 use Rattle.std.specs.Int.{w32}
 use Rattle.std.proofs.Common.{SFits}
@@ -31,7 +31,7 @@ pub ranged-fresh : (img : List ℕ) → Accepted img → Ranged img (fresh_state
 unfolding parameter
 ranged-fresh img a =
     record {
-      shown = λ n h. rw (fresh_node_lem img n h) (signed-fits _);
+      shown = λ n h. rw (ap (λ (x : Node). x.value) (fresh_node_lem img n h)) (signed-fits _);
       held = λ c h. rw (fresh-tokens img a c h) (All-cons (SFits w32) _ [] (signed-fits _) (All-nil (SFits w32)));
     }
 
