@@ -1,13 +1,21 @@
 /* Channel Bench for C: the functions of libcapi.a. `rt lib` in crates/capi_c proves it and writes it, as
  * crates/capi_c/out/libcapi_c.a.
  *
- * Every function answers a number: 0 if the call was accepted, else the number that refuses it. What it answers beside the
- * number it stores through its last pointers, in a refusal too (0, or for a run the steps done before it). A refused call
- * writes nothing else, but for channel_bench_fresh, whose answer then is a state of zeros.
+ * Every function but channel_bench_edition answers a number: 0 if the call was accepted, else the number that refuses it.
+ * What it answers beside the number it stores through its last pointers, in a refusal too (0, or for a run the steps done
+ * before it). A refused call writes nothing else, but for channel_bench_fresh, whose answer then is a state of zeros.
  *
  * Nothing is asked of the bytes or of any length: whatever they are, there is an answer. Of the pointers it is asked that
- * each is valid for the length that follows it (or for one value), that none is null, even with length 0, and that nothing
- * a function may write overlaps anything else that it is given. No function keeps a pointer, allocates or fails otherwise.
+ *   - each is valid for the length that follows it, or for one value. With length 0 nothing is read or written there, and
+ *     the pointer may be null; no other may be null.
+ *   - each stands as its type wants it: one to bytes, letters or a bool anywhere, one to int32_t, uint32_t, uint64_t or
+ *     size_t at a multiple of that type's alignment.
+ *   - nothing that a function may write overlaps anything else that it is given.
+ *
+ * No function keeps a pointer or anything else from call to call, allocates, waits or fails otherwise: there are no
+ * variables but those on the stack. So calls may be made from any thread, and at the same time on several, as long as
+ * nothing that one of them may write is given to another meanwhile. What all only read, such as an image, may be given to
+ * all. How much stack a call needs stands below.
  *
  * What each answers is its contract in crates/capi_c/src/lib.rt, an equation with the definitions in the crates' specs/.
  */
@@ -21,6 +29,58 @@
 #ifdef __cplusplus
 extern "C" {
 #endif
+
+/* The edition of this header, which channel_bench_edition answers for the library. It rises with each change after which a
+ * program built with the header of before, or a state that it has kept, is of no use any more. So a program compares it with
+ * the library's, and one that keeps states in a file keeps the edition beside them. */
+#define CHANNEL_BENCH_EDITION 1
+
+/* The most that an image may have: nodes, channels, stations on a channel and in all, places of a queue, and bytes. A row has
+ * at most as many stations as a channel. */
+#define CHANNEL_BENCH_NODES 64
+#define CHANNEL_BENCH_CHANNELS 96
+#define CHANNEL_BENCH_STATIONS 8
+#define CHANNEL_BENCH_ALL_STATIONS 256
+#define CHANNEL_BENCH_QUEUE 8
+#define CHANNEL_BENCH_IMAGE_BYTES 802
+
+/* The most cycles that a state counts, and the last cycle of the strict system. */
+#define CHANNEL_BENCH_CYCLES 1000000
+
+/* The kinds of nodes, as an image has them. */
+enum channel_bench_kind {
+    CHANNEL_BENCH_KIND_COUNT = 1,
+    CHANNEL_BENCH_KIND_HOLD = 2,
+    CHANNEL_BENCH_KIND_TOTAL = 3,
+    CHANNEL_BENCH_KIND_NEGATE = 4,
+    CHANNEL_BENCH_KIND_HALVE = 5,
+    CHANNEL_BENCH_KIND_SUM = 6,
+    CHANNEL_BENCH_KIND_DIFFERENCE = 7,
+    CHANNEL_BENCH_KIND_LARGER = 8,
+    CHANNEL_BENCH_KIND_CHOOSE = 9
+};
+
+/* The numbers that calls answer. N is an image's first byte, how many nodes it has, and C its second, how many channels. */
+enum channel_bench_number {
+    CHANNEL_BENCH_ACCEPTED = 0,
+    CHANNEL_BENCH_REFUSED_SHORT = 1,     /* image under 2 bytes */
+    CHANNEL_BENCH_REFUSED_SIZES = 2,     /* N is 0 or over 64, or C over 96 */
+    CHANNEL_BENCH_REFUSED_LENGTH = 3,    /* length not 2 + 5N + 5C */
+    CHANNEL_BENCH_REFUSED_KIND = 4,      /* kind not 1 to 9 */
+    CHANNEL_BENCH_REFUSED_WIRE = 5,      /* wire names a node not there */
+    CHANNEL_BENCH_REFUSED_PORT = 6,      /* port not below the to node's inputs */
+    CHANNEL_BENCH_REFUSED_FED_TWICE = 7, /* a port fed twice */
+    CHANNEL_BENCH_REFUSED_NOT_FED = 8,   /* a port not fed */
+    CHANNEL_BENCH_REFUSED_STATIONS = 9,  /* stations over 8 */
+    CHANNEL_BENCH_REFUSED_DEPTH = 10,    /* queue 0 or over 8 */
+    CHANNEL_BENCH_REFUSED_TOTAL = 11,    /* over 256 stations in all */
+    CHANNEL_BENCH_REFUSED_STALL = 12,    /* stall word sets a bit at or above N */
+    CHANNEL_BENCH_REFUSED_ROOM = 13,     /* a lent array shorter than the result */
+    CHANNEL_BENCH_REFUSED_LIMIT = 14,    /* strict cycle over 1,000,000 */
+    CHANNEL_BENCH_REFUSED_ROW = 15,      /* row of no records or over 8 */
+    CHANNEL_BENCH_REFUSED_MISFIT = 21,   /* the state does not fit the image; on a bench, a record that is none */
+    CHANNEL_BENCH_REFUSED_CYCLES = 22    /* the cycle count is 1,000,000 */
+};
 
 /* A state as bytes, each number low byte first. A state is exactly CHANNEL_BENCH_STATE_BYTES long; with any other length it
  * does not fit (21).
@@ -43,6 +103,26 @@ extern "C" {
 #define CHANNEL_BENCH_HEADER_LINE_BYTES 13
 #define CHANNEL_BENCH_CYCLE_LINE_BYTES 1259
 #define CHANNEL_BENCH_CLOSING_LINE_BYTES 710
+
+/* How much stack is enough for a call, from its caller's frame down, what is handed over on the stack included; and last for
+ * every call. No proof speaks of it: it was measured on the archive that `rt lib` makes and given room, and a test calls
+ * each function with so much stack and no more. What the caller's own functions, the system's threads and signal handlers
+ * take comes on top. */
+#define CHANNEL_BENCH_EDITION_STACK_BYTES 16384
+#define CHANNEL_BENCH_JUDGE_STACK_BYTES 16384
+#define CHANNEL_BENCH_FRESH_STACK_BYTES 65536
+#define CHANNEL_BENCH_STEP_STACK_BYTES 262144
+#define CHANNEL_BENCH_RUN_STACK_BYTES 131072
+#define CHANNEL_BENCH_STRICT_STACK_BYTES 16384
+#define CHANNEL_BENCH_HEADER_LINE_STACK_BYTES 16384
+#define CHANNEL_BENCH_CYCLE_LINE_STACK_BYTES 262144
+#define CHANNEL_BENCH_CLOSING_LINE_STACK_BYTES 65536
+#define CHANNEL_BENCH_STATION_STACK_BYTES 16384
+#define CHANNEL_BENCH_ROW_STACK_BYTES 16384
+#define CHANNEL_BENCH_STACK_BYTES 262144
+
+/* Answers CHANNEL_BENCH_EDITION of the library. */
+uint32_t channel_bench_edition(void);
 
 /* Judges an image: 0, or 1 to 11. */
 uint8_t channel_bench_judge(const uint8_t *image, size_t image_len);

@@ -7,7 +7,7 @@
 set -eu
 
 # Seconds of processor time: of a crate, its proof and its edits; of a test program; of all crates. More have capi,
-# which has ten calls; clock, whose cycle is one function for its speed; trace, a program that each edit links anew; and
+# which has the calls for C; clock, whose cycle is one function for its speed; trace, a program that each edit links anew; and
 # test_engine, which has the cases of three crates.
 each=200
 program=60

@@ -1,9 +1,10 @@
 #!/usr/bin/env bash
 # Tests the examples that stand on the library: bash tests/examples.sh [FOLDER]. The folder has libcapi.a, by default
-# out/; rt makes the library if it is not there. Needs cc, rustc 1.80 or later, and cmp. Prints a line for
-# each failure and last 'N passed, M failed'; ends with 1 if any failed.
+# out/; rt makes the library if it is not there. Needs cc, nm, rustc 1.80 or later, and cmp. Prints a line
+# for each failure and last 'N passed, M failed'; ends with 1 if any failed.
 #
-# examples/c/figure4.c has to print figure4.output. examples/rust/trace.rs has to print what the trace program prints,
+# examples/c/figure4.c has to print figure4.output, also with the library as a shared object, which has to export the
+# functions of the header and nothing else. examples/rust/trace.rs has to print what the trace program prints,
 # on the examples and on all of tests/trace.
 set -eu
 
@@ -32,6 +33,15 @@ check() {
 cc -std=c11 -O2 -Wall -Wextra -pedantic -Werror -Iinclude \
     -o "$scratch/figure4" examples/c/figure4.c "$library/libcapi.a"
 check examples/c/figure4.c examples/c/figure4.output "$scratch/figure4"
+
+cc -shared -o "$scratch/libchannel_bench.so" -Wl,-soname,libchannel_bench.so -Wl,-z,text,-z,defs \
+    -Wl,--whole-archive "$library/libcapi.a" -Wl,--no-whole-archive
+cc -std=c11 -O2 -Wall -Wextra -pedantic -Werror -Iinclude \
+    -o "$scratch/shared" examples/c/figure4.c -L"$scratch" -lchannel_bench -Wl,-rpath,"$scratch"
+check "examples/c/figure4.c on the shared object" examples/c/figure4.output "$scratch/shared"
+sed -nE 's/^uint[0-9]+_t (channel_bench_[a-z_]+)\(.*/\1/p' include/channel_bench.h | sort > "$scratch/functions"
+exported() { nm -D --defined-only -j "$scratch/libchannel_bench.so" | sort; }
+check "what the shared object exports" "$scratch/functions" exported
 
 rustc --edition 2021 -C opt-level=3 -D warnings -L "$library" -o "$scratch/trace" examples/rust/trace.rs
 for input in examples/*.input; do

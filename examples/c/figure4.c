@@ -13,7 +13,8 @@
 
 static const uint8_t image[] = {
     5, 4,                                    /* 5 nodes, 4 channels */
-    1, 1, 6, 2, 2,                           /* count, count, sum, hold, hold */
+    CHANNEL_BENCH_KIND_COUNT, CHANNEL_BENCH_KIND_COUNT, CHANNEL_BENCH_KIND_SUM,
+    CHANNEL_BENCH_KIND_HOLD, CHANNEL_BENCH_KIND_HOLD,
     10, 0, 0, 0, 100, 0, 0, 0, 0, 0, 0, 0,   /* parameters 10, 100, 0, */
     0, 0, 0, 0, 0, 0, 0, 0,                  /* 0, 0 */
     0, 2, 0, 1, 2, 1, 2, 3, 0, 2, 4, 0,      /* wires 0-2-0, 1-2-1, 2-3-0, 2-4-0 */
@@ -26,7 +27,7 @@ static uint8_t state[CHANNEL_BENCH_STATE_BYTES];
 
 /* Ends the program if a call was refused. */
 static void accept(uint8_t number) {
-    if (number != 0) {
+    if (number != CHANNEL_BENCH_ACCEPTED) {
         printf("refused %u\n", (unsigned)number);
         exit(EXIT_FAILURE);
     }
@@ -49,9 +50,9 @@ static void print_trace(void) {
 }
 
 static void print_strict(uint32_t cycle) {
-    int32_t values[64];
+    int32_t values[CHANNEL_BENCH_NODES];
 
-    accept(channel_bench_strict(image, sizeof image, cycle, values, 64));
+    accept(channel_bench_strict(image, sizeof image, cycle, values, CHANNEL_BENCH_NODES));
     printf("strict values of cycle %" PRIu32 ":", cycle);
     for (size_t i = 0; i < image[0]; i++) {
         printf(" %" PRId32, values[i]);
@@ -82,6 +83,10 @@ static void print_table1(void) {
 }
 
 int main(void) {
+    if (channel_bench_edition() != CHANNEL_BENCH_EDITION) {
+        printf("the library is of edition %" PRIu32 "\n", channel_bench_edition());
+        return EXIT_FAILURE;
+    }
     accept(channel_bench_judge(image, sizeof image));
     printf("accepted\n");
     print_trace();

@@ -6,6 +6,30 @@
 
 use std::fmt;
 
+/// The edition of the header that this module is written after. [`edition`] answers the library's.
+pub const EDITION: u32 = 1;
+
+/// The most nodes that an image may have.
+pub const NODES: usize = 64;
+
+/// The most channels that an image may have.
+pub const CHANNELS: usize = 96;
+
+/// The most stations on a channel, and in a row.
+pub const STATIONS: usize = 8;
+
+/// The most stations in an image.
+pub const ALL_STATIONS: usize = 256;
+
+/// The most places of a queue.
+pub const QUEUE: usize = 8;
+
+/// How long the longest image is.
+pub const IMAGE_BYTES: usize = 802;
+
+/// The most cycles that a state counts, and the last cycle of the strict system.
+pub const CYCLES: u32 = 1_000_000;
+
 /// How many bytes a state has.
 pub const STATE_BYTES: usize = 10_692;
 
@@ -21,31 +45,67 @@ pub const CYCLE_LINE_BYTES: usize = 1_259;
 /// Room that is enough for every closing line of a trace.
 pub const CLOSING_LINE_BYTES: usize = 710;
 
-/// The number that refuses a call: 1 to 15, 21 or 22.
+/// Room on the stack that is enough for every call of [`raw`]. The header has each call's. The functions of this module
+/// hand states on by value, which takes some more.
+pub const STACK_BYTES: usize = 262_144;
+
+/// A kind of node, as its byte in an image: `Kind::Sum as u8`.
+#[derive(Clone, Copy, Debug, PartialEq, Eq)]
+pub enum Kind {
+    Count = 1,
+    Hold = 2,
+    Total = 3,
+    Negate = 4,
+    Halve = 5,
+    Sum = 6,
+    Difference = 7,
+    Larger = 8,
+    Choose = 9,
+}
+
+/// The number that refuses a call: one of the constants below.
 #[derive(Clone, Copy, Debug, PartialEq, Eq)]
 pub struct Refused(pub u8);
 
 impl Refused {
+    pub const SHORT: Refused = Refused(1);
+    pub const SIZES: Refused = Refused(2);
+    pub const LENGTH: Refused = Refused(3);
+    pub const KIND: Refused = Refused(4);
+    pub const WIRE: Refused = Refused(5);
+    pub const PORT: Refused = Refused(6);
+    pub const FED_TWICE: Refused = Refused(7);
+    pub const NOT_FED: Refused = Refused(8);
+    pub const STATIONS: Refused = Refused(9);
+    pub const DEPTH: Refused = Refused(10);
+    pub const TOTAL: Refused = Refused(11);
+    pub const STALL: Refused = Refused(12);
+    pub const ROOM: Refused = Refused(13);
+    pub const LIMIT: Refused = Refused(14);
+    pub const ROW: Refused = Refused(15);
+    pub const MISFIT: Refused = Refused(21);
+    pub const CYCLES: Refused = Refused(22);
+
     /// What causes the number.
     pub fn cause(self) -> &'static str {
-        match self.0 {
-            1 => "image under 2 bytes",
-            2 => "N is 0 or over 64, or C over 96",
-            3 => "length not 2 + 5N + 5C",
-            4 => "kind not 1 to 9",
-            5 => "wire names a node not there",
-            6 => "port not below the to node's inputs",
-            7 => "a port fed twice",
-            8 => "a port not fed",
-            9 => "stations over 8",
-            10 => "queue 0 or over 8",
-            11 => "over 256 stations in all",
-            12 => "stall word sets a bit at or above N",
-            13 => "a lent array shorter than the result",
-            14 => "strict cycle over 1,000,000, or over 4,096 words",
-            15 => "row of no records or over 8",
-            21 => "the state does not fit the image, or a record its form",
-            22 => "the cycle count is 1,000,000",
+        match self {
+            Refused::SHORT => "image under 2 bytes",
+            Refused::SIZES => "N is 0 or over 64, or C over 96",
+            Refused::LENGTH => "length not 2 + 5N + 5C",
+            Refused::KIND => "kind not 1 to 9",
+            Refused::WIRE => "wire names a node not there",
+            Refused::PORT => "port not below the to node's inputs",
+            Refused::FED_TWICE => "a port fed twice",
+            Refused::NOT_FED => "a port not fed",
+            Refused::STATIONS => "stations over 8",
+            Refused::DEPTH => "queue 0 or over 8",
+            Refused::TOTAL => "over 256 stations in all",
+            Refused::STALL => "stall word sets a bit at or above N",
+            Refused::ROOM => "a lent array shorter than the result",
+            Refused::LIMIT => "strict cycle over 1,000,000, or over 4,096 words",
+            Refused::ROW => "row of no records or over 8",
+            Refused::MISFIT => "the state does not fit the image, or a record its form",
+            Refused::CYCLES => "the cycle count is 1,000,000",
             _ => "a number without a cause",
         }
     }
@@ -88,7 +148,7 @@ impl State {
     ///
     /// If `node` is 64 or more.
     pub fn value(&self, node: usize) -> i32 {
-        assert!(node < 64, "a state has 64 nodes");
+        assert!(node < NODES, "a state has 64 nodes");
         i32::from_le_bytes(self.four(4 + 8 * node))
     }
 
@@ -98,7 +158,7 @@ impl State {
     ///
     /// If `node` is 64 or more.
     pub fn firings(&self, node: usize) -> u32 {
-        assert!(node < 64, "a state has 64 nodes");
+        assert!(node < NODES, "a state has 64 nodes");
         u32::from_le_bytes(self.four(8 + 8 * node))
     }
 
@@ -120,6 +180,12 @@ pub struct Answer {
 
 /// A station record as bytes.
 pub type Station = [u8; STATION_BYTES];
+
+/// The edition of the library, to be compared with [`EDITION`], and with that of the library that made a state which was
+/// kept.
+pub fn edition() -> u32 {
+    raw::edition()
+}
 
 /// Judges an image.
 pub fn judge(image: &[u8]) -> Result<(), Refused> {
@@ -202,6 +268,7 @@ pub mod raw {
 
     #[link(name = "capi", kind = "static")]
     extern "C" {
+        fn channel_bench_edition() -> u32;
         fn channel_bench_judge(image: *const u8, image_len: usize) -> u8;
         fn channel_bench_fresh(image: *const u8, image_len: usize, state: *mut u8, state_len: usize) -> u8;
         fn channel_bench_step(
@@ -271,6 +338,11 @@ pub mod raw {
             shown: *mut i32,
             taken: *mut bool,
         ) -> u8;
+    }
+
+    /// `channel_bench_edition`.
+    pub fn edition() -> u32 {
+        unsafe { channel_bench_edition() }
     }
 
     /// `channel_bench_judge`.

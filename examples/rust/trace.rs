@@ -27,12 +27,12 @@ fn main() -> io::Result<()> {
 fn accepted(input: &[u8]) -> Result<(&[u8], State, Vec<u64>), Refused> {
     let (image, tail) = input.split_at(image_length(input).min(input.len()));
     match channel_bench::judge(image) {
-        Err(refused) if refused.0 < 3 => return Err(refused),
-        _ if tail.len() % 8 != 0 => return Err(Refused(3)),
+        Err(refused @ (Refused::SHORT | Refused::SIZES)) => return Err(refused),
+        _ if tail.len() % 8 != 0 => return Err(Refused::LENGTH),
         judged => judged?,
     }
     if tail.len() / 8 > MOST_WORDS {
-        return Err(Refused(14));
+        return Err(Refused::LIMIT);
     }
     let words: Vec<u64> = tail.chunks_exact(8).map(|w| u64::from_le_bytes(w.try_into().unwrap())).collect();
     let state = channel_bench::fresh(image)?;

@@ -80,7 +80,8 @@ fn wrapper(group: &mut Group) {
     case.same("strict values", (worked, strict), (Ok(()), [18, 108, 124, 122, 122]));
     case.same("values", std::array::from_fn(|i| state.value(i)), strict);
     case.same("firings", std::array::from_fn(|i| state.firings(i)), [8; 5]);
-    case.same("a short image", channel_bench::judge(&image[..46]), Err(Refused(3)));
+    case.same("the edition", channel_bench::edition(), channel_bench::EDITION);
+    case.same("a short image", channel_bench::judge(&image[..46]), Err(Refused::LENGTH));
     let answer = Answer { letter: b'I', value: 0, taken: true };
     case.same("a row", channel_bench::row(&mut row, Some(-2), false), Ok(answer));
     case.same("its records", (row[0], row[1]), ([254, 255, 255, 255, 0, 0, 0, 0, 1], [0; 9]));
@@ -89,8 +90,8 @@ fn wrapper(group: &mut Group) {
         channel_bench::station(&mut row[1], None, true),
         Ok(Answer { letter: b'S', taken: false, ..answer }),
     );
-    case.same("no row", channel_bench::row(&mut [], None, false), Err(Refused(15)));
-    case.same("a cause", Refused(15).to_string(), "refused 15: row of no records or over 8".to_string());
+    case.same("no row", channel_bench::row(&mut [], None, false), Err(Refused::ROW));
+    case.same("a cause", Refused::ROW.to_string(), "refused 15: row of no records or over 8".to_string());
 }
 
 fn sizes(group: &mut Group, image: &[u8], number: u8) {

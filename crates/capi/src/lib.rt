@@ -2,8 +2,8 @@
 // numbers. `include/channel_bench.h` declares them and has the layout of a state's bytes; crate `capi_c`
 // exports them.
 //
-// Each answers 0, or the number that refuses the call. What it answers beside that it stores through
-// its last references.
+// Each but the edition answers 0, or the number that refuses the call. What it answers beside that it
+// stores through its last references.
 //
 // A function reads the state or the records out of the bytes (`decode`), calls the crate that does the
 // work, and writes them back if the call was accepted (`encode`). Nothing is judged here: bytes of a
@@ -11,7 +11,7 @@
 // order, and all that a refusal leaves come from the crates below. The contracts are their definitions
 // on `state_in bytes`, `record_in bytes` and `row_in bytes`.
 //
-// That readers and writers agree is said by none of the ten contracts: two wrong ones would fit each
+// That readers and writers agree is said by none of the contracts: two wrong ones would fit each
 // other. `state_back` says it (proofs/Back.antt of `layout`): a reader does not mind what stands
 // before its place (`node_behind`) and finds what was written there (`node_front`); `each_back` makes
 // of these two that it finds each of a list of records.
@@ -24,11 +24,23 @@ ghost use Rattle.strict.specs.Answer.{strict_number, strict_written};
 ghost use Rattle.bench.specs.Bench.{told as bench_told};
 ghost use Rattle.text.specs.Trace.{header};
 ghost use Rattle.layout.specs.Bytes.{record_in, row_in};
+ghost use Rattle.capi.specs.Edition.{edition};
 ghost use Rattle.capi.specs.Calls.{FreshCall, StepCall, RunCall, LineCall, ClosingCall, TextCall, BenchCall};
 
 use bench::Answer;
 use refusal::Refusal;
 use state::State;
+
+// The edition that the header has as CHANNEL_BENCH_EDITION.
+const EDITION: u32 = 1;
+
+// Returns the edition of the calls, which a program compares with that of its header, and of the
+// library that made a state which it has kept.
+pub fn channel_bench_edition() -> u32
+    ensures { result ≡ edition }
+{
+    EDITION
+}
 
 // The number that C is told of an answer, 0 if it is no refusal.
 fn number<T: Copy>(answer: Result<T, Refusal>) -> u8

@@ -10,7 +10,17 @@ ghost use Rattle.verdict.specs.Judge.{judge};
 ghost use Rattle.strict.specs.Answer.{strict_number, strict_written};
 ghost use Rattle.text.specs.Trace.{header};
 ghost use Rattle.layout.specs.Bytes.{record_in, row_in};
+ghost use Rattle.capi.specs.Edition.{edition};
 ghost use Rattle.capi.specs.Calls.{FreshCall, StepCall, RunCall, LineCall, ClosingCall, TextCall, BenchCall};
+
+// Returns the edition of the calls, which a program compares with that of its header, and of the
+// library that made a state which it has kept.
+#[unsafe(no_mangle)]
+pub extern "C" fn channel_bench_edition() -> u32
+    ensures { result ≡ edition }
+{
+    capi::channel_bench_edition()
+}
 
 // Returns 0 if an image is accepted, else the first of 1 to 11 that it has a cause for.
 #[unsafe(no_mangle)]
