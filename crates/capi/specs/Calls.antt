@@ -16,6 +16,10 @@ use Rattle.tracer.specs.Done.{line_answer, line_over, closing_answer, closing_ov
 use Rattle.bench.specs.Bench.{bench_answer, bench_after}
 use Rattle.layout.specs.Bytes.{state_bytes, state_length, station_bytes, state_in}
 
+-- bytes whose first are now those of a state; what followed stays
+unfoldable pub state_over : State → List ℕ → List ℕ
+state_over s bytes = state_bytes s ++ drop state_length bytes
+
 -- ---- a fresh state
 -- the number of a call for a fresh state, given how many bytes are lent: "1 to 11 rising", then 13, "a lent array shorter than the result"
 unfoldable pub fresh_number : List ℕ → ℕ → ℕ
@@ -27,7 +31,7 @@ fresh_number img room =
 -- what the lent bytes hold after a call for a fresh state: the state, or zeros. "A refused call for a fresh state, which is handed none, returns a
 -- state of zeros throughout." Too few bytes stay as they were
 unfoldable pub fresh_over : List ℕ → List ℕ → List ℕ
-fresh_over img old = old if ltb (length old) state_length else (state_bytes (fresh_answer img).state ++ drop state_length old)
+fresh_over img old = old if ltb (length old) state_length else state_over (fresh_answer img).state old
 
 -- what a call for a fresh state has done
 pub record FreshCall (img old : List ℕ) (number : ℕ) (left : List ℕ) : Type 0 where
@@ -37,7 +41,7 @@ pub record FreshCall (img old : List ℕ) (number : ℕ) (left : List ℕ) : Typ
 -- ---- steps and runs
 -- what the bytes of a state hold after a step or a call for a cycle's line: the state s if the number is 0, else what they held before
 unfoldable pub state_left : ℕ → State → List ℕ → List ℕ
-state_left number s bytes = state_bytes s if eqb number 0 else bytes
+state_left number s bytes = state_over s bytes if eqb number 0 else bytes
 
 -- what a call for a step has done, on the state that bytes are
 pub record StepCall
@@ -52,7 +56,7 @@ pub record StepCall
 pub record RunCall (img bytes words : List ℕ) (number steps : ℕ) (left : List ℕ) : Type 0 where
   pub numbered : number ≡ (run_answer img (state_in bytes) words).number
   pub counted : steps ≡ (run_answer img (state_in bytes) words).steps
-  pub changed : left ≡ (bytes if eqb steps 0 else state_bytes (run_answer img (state_in bytes) words).state)
+  pub changed : left ≡ (bytes if eqb steps 0 else state_over (run_answer img (state_in bytes) words).state bytes)
 
 -- ---- lines of a trace
 -- what a call for a cycle's line has done, on the state that bytes are

@@ -84,7 +84,7 @@ fn queues_in(bytes: &[u8]) -> [Queue; 96]
     array::from_fn(|c| queue_in(bytes, 7524 + 33 * c))
 }
 
-// What bytes that are no state are read as: a state that fits no image. An `Option` would be no plainer:
+// What fewer bytes than a state has are read as: a state that fits no image. An `Option` would be no plainer:
 // each call would say once more which numbers come before 21.
 fn no_state() -> State
     ensures { result ≡ no_state }
@@ -94,12 +94,12 @@ fn no_state() -> State
     state
 }
 
-// Returns the state that bytes are read as: one that fits no image if they have another length than a
-// state's.
+// Returns the state that bytes are read as: it stands in the first of them. Where they are fewer than a
+// state has, it is one that fits no image.
 pub fn state_in(bytes: &[u8]) -> State
     ensures { result ≡ state_in bytes.now }
 {
-    if bytes.len() != STATE {
+    if bytes.len() < STATE {
         return no_state();
     }
     State {

@@ -1,2 +1,3 @@
 -- What others use in place of the definitions' texts.
 pub mod Answer
+pub mod Fits

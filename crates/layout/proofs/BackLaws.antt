@@ -1,5 +1,5 @@
 -- Lemmas for reading back: a reader finds what was written behind other bytes, and at the front of them. Assumes nothing.
-use mathlib.Core.List.{List, [], ◌∷◌, ◌++◌, append_assoc, append-nil}
+use mathlib.Core.List.{List, [], ◌∷◌, ◌++◌, append_assoc}
 use Rattle.std.proofs.Common.{⊎_elim, ap, ap₂, ◌∙◌, not-suc-le-zero, zero-add, add-zero, arith, length-append, get_or-append-add}
 use Rattle.std.specs.Prelude.{◌≡◌, ℕ, zero, suc, ◌+◌, ◌*◌, ◌-◌, ◌%◌, ◌/◌, ◌^◌, ◌<◌, ℤ, pos, negsuc, length}
 use Rattle.std.proofs.Math.Path.{sym}
@@ -158,8 +158,8 @@ queue_front q ys good =
     rw (count_front q.tokens 8 q.count ys, append_assoc first (q.count ∷ []) ys)
     (ap (λ (l : List ℤ). record { tokens = l; count = q.count }) e)
 
--- ---- a state, part by part
-module _ (s : State) (typed : Typed s) where
+-- ---- a state, part by part, and what stands behind it
+module _ (s : State) (typed : Typed s) (rest : List ℕ) where
   abbrev cycles : List ℕ
   cycles = number_bytes s.cycles
 
@@ -175,16 +175,28 @@ module _ (s : State) (typed : Typed s) where
   abbrev queues : List ℕ
   queues = each queue_bytes (queue_at s) 96
 
-  cycles_back : four_bytes (state_bytes s) 0 ≡ s.cycles
-  unfolding state_bytes
-  cycles_back = number_front s.cycles (cores ++ (pending ++ (stations ++ queues))) typed.cycled
+  -- the bytes, with the brackets where each part is read
+  abbrev bytes : List ℕ
+  bytes = cycles ++ (cores ++ (pending ++ (stations ++ (queues ++ rest))))
 
-  nodes_back : table (λ n. node_in (state_bytes s) (4 + 8 * n)) 64 ≡ s.nodes
-  unfolding state_bytes node_at
+  whole : state_bytes s ++ rest ≡ bytes
+  unfolding state_bytes
+  whole =
+      append_assoc cycles (cores ++ (pending ++ (stations ++ queues))) rest
+      ∙ ap (λ (l : List ℕ). cycles ++ l)
+      (append_assoc cores (pending ++ (stations ++ queues)) rest
+      ∙ ap (λ (l : List ℕ). cores ++ l)
+      (append_assoc pending (stations ++ queues) rest ∙ ap (λ (l : List ℕ). pending ++ l) (append_assoc stations queues rest)))
+
+  cycles_back : four_bytes bytes 0 ≡ s.cycles
+  cycles_back = number_front s.cycles (cores ++ (pending ++ (stations ++ (queues ++ rest)))) typed.cycled
+
+  nodes_back : table (λ n. node_in bytes (4 + 8 * n)) 64 ≡ s.nodes
+  unfolding node_at
   nodes_back =
-      table_same (λ n. node_in (state_bytes s) (4 + 8 * n)) (node_at s) 64
+      table_same (λ n. node_in bytes (4 + 8 * n)) (node_at s) 64
       (λ n h.
-      each_back node_bytes node_in 8 node_long node_behind GoodNode node_front (node_at s) 64 n cycles (pending ++ (stations ++ queues)) 4 h
+      each_back node_bytes node_in 8 node_long node_behind GoodNode node_front (node_at s) 64 n cycles (pending ++ (stations ++ (queues ++ rest))) 4 h
       (typed.valued n h, typed.fired n h) (number_long s.cycles))
       ∙ own s.nodes no_node 64 typed.shaped.nodes
 
@@ -200,46 +212,45 @@ module _ (s : State) (typed : Typed s) where
       length-append ((cycles ++ cores) ++ pending) stations
       ∙ rw (before_stations, each_long station_bytes 9 station_long (λ i. get_or s.stations i no_station) 768)
 
-  at-pending : state_bytes s ≡ (cycles ++ cores) ++ (pending ++ (stations ++ queues))
-  unfolding state_bytes
-  at-pending = sym (append_assoc cycles cores (pending ++ (stations ++ queues)))
+  at-pending : bytes ≡ (cycles ++ cores) ++ (pending ++ (stations ++ (queues ++ rest)))
+  at-pending = sym (append_assoc cycles cores (pending ++ (stations ++ (queues ++ rest))))
 
-  at-stations : state_bytes s ≡ ((cycles ++ cores) ++ pending) ++ (stations ++ queues)
-  at-stations = at-pending ∙ sym (append_assoc (cycles ++ cores) pending (stations ++ queues))
+  at-stations : bytes ≡ ((cycles ++ cores) ++ pending) ++ (stations ++ (queues ++ rest))
+  at-stations = at-pending ∙ sym (append_assoc (cycles ++ cores) pending (stations ++ (queues ++ rest)))
 
-  at-queues : state_bytes s ≡ (((cycles ++ cores) ++ pending) ++ stations) ++ (queues ++ [])
-  at-queues = at-stations ∙ sym (append_assoc ((cycles ++ cores) ++ pending) stations queues) ∙ rw append-nil
+  at-queues : bytes ≡ (((cycles ++ cores) ++ pending) ++ stations) ++ (queues ++ rest)
+  at-queues = at-stations ∙ sym (append_assoc ((cycles ++ cores) ++ pending) stations (queues ++ rest))
 
-  pending_back : table (λ c. get_or (state_bytes s) (516 + c) 0) 96 ≡ s.pending
+  pending_back : table (λ c. get_or bytes (516 + c) 0) 96 ≡ s.pending
   unfolding pending_at
   pending_back =
-      table_same (λ c. get_or (state_bytes s) (516 + c) 0) (pending_at s) 96
+      table_same (λ c. get_or bytes (516 + c) 0) (pending_at s) 96
       (λ c h.
       rw (at-pending, ← before_pending)
-      (get_or-append-add (cycles ++ cores) (pending ++ (stations ++ queues)) c 0
-      ∙ get_or-append pending (stations ++ queues) 0 c (rw length-table h) ∙ table_at (pending_at s) 96 c 0 h))
+      (get_or-append-add (cycles ++ cores) (pending ++ (stations ++ (queues ++ rest))) c 0
+      ∙ get_or-append pending (stations ++ (queues ++ rest)) 0 c (rw length-table h) ∙ table_at (pending_at s) 96 c 0 h))
       ∙ own s.pending 0 96 typed.shaped.pending
 
-  stations_back : table (λ i. station_in (state_bytes s) (612 + 9 * i)) 768 ≡ s.stations
+  stations_back : table (λ i. station_in bytes (612 + 9 * i)) 768 ≡ s.stations
   stations_back =
-      table_same (λ i. station_in (state_bytes s) (612 + 9 * i)) (λ i. get_or s.stations i no_station) 768
+      table_same (λ i. station_in bytes (612 + 9 * i)) (λ i. get_or s.stations i no_station) 768
       (λ i h.
       rw at-stations
       (each_back station_bytes station_in 9 station_long station-behind (λ x. GoodTokens 2 x.tokens) station_front
-      (λ i. get_or s.stations i no_station) 768 i ((cycles ++ cores) ++ pending) queues 612 h (typed.shaped.station i h, typed.held i h)
+      (λ i. get_or s.stations i no_station) 768 i ((cycles ++ cores) ++ pending) (queues ++ rest) 612 h (typed.shaped.station i h, typed.held i h)
       before_stations))
       ∙ own s.stations no_station 768 typed.shaped.stations
 
-  queues_back : table (λ c. queue_in (state_bytes s) (7524 + 33 * c)) 96 ≡ s.queues
+  queues_back : table (λ c. queue_in bytes (7524 + 33 * c)) 96 ≡ s.queues
   unfolding queue_at
   queues_back =
-      table_same (λ c. queue_in (state_bytes s) (7524 + 33 * c)) (queue_at s) 96
+      table_same (λ c. queue_in bytes (7524 + 33 * c)) (queue_at s) 96
       (λ c h.
       rw at-queues
       (each_back queue_bytes queue_in 33 queue_long queue_behind (λ x. GoodTokens 8 x.tokens) queue_front (queue_at s) 96 c
-      (((cycles ++ cores) ++ pending) ++ stations) [] 7524 h (typed.shaped.queue c h, typed.queued c h) before_queues))
+      (((cycles ++ cores) ++ pending) ++ stations) rest 7524 h (typed.shaped.queue c h, typed.queued c h) before_queues))
       ∙ own s.queues no_queue 96 typed.shaped.queues
 
-  pub places_back : places_in (state_bytes s) ≡ s
+  pub places_back : places_in (state_bytes s ++ rest) ≡ s
   unfolding places_in
-  places_back = rw (cycles_back, nodes_back, pending_back, stations_back, queues_back)
+  places_back = rw (whole, cycles_back, nodes_back, pending_back, stations_back, queues_back)

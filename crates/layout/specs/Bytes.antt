@@ -85,13 +85,13 @@ places_in bytes =
       queues = table (λ c. queue_in bytes (7524 + 33 * c)) 96;
     }
 
--- what bytes of any other length than a state's are read as: a state that fits no image, by its cycle count
+-- what fewer bytes than a state has are read as: a state that fits no image, by its cycle count
 unfoldable pub no_state : State
 no_state = record { cycles = 1000001; nodes = zeros.nodes; pending = zeros.pending; stations = zeros.stations; queues = zeros.queues }
 
--- the state that bytes are read as
+-- the state that bytes are read as: it stands in the first of them, and what follows it is not looked at
 unfoldable pub state_in : List ℕ → State
-state_in bytes = places_in bytes if eqb (length bytes) state_length else no_state
+state_in bytes = places_in bytes if leb state_length (length bytes) else no_state
 
 -- what bytes of any other length than a record's are read as: a record that fits no bench, by its count
 unfoldable pub no_record : Station

@@ -6,7 +6,8 @@ use Rattle.std.proofs.Math.Path.{sym, ap}
 use Rattle.std.proofs.Math.Decide.{ℕ_discrete}
 use borrow.Author.Tests.{eqb-true, eqb-false, ne_eqb}
 use Rattle.std.proofs.Math.Dec.{eqb, ltb}
-use Rattle.laws.specs.Laws.Cases.{true_or_false}
+use Rattle.std.proofs.lemmas.Bool.{lt-leb}
+use Rattle.laws.specs.Laws.Cases.{true_or_false, lt-or-ge}
 use Rattle.laws.specs.Choice.{◌if◌else◌}
 use Rattle.verdict.specs.Judge.{judge}
 use Rattle.state.specs.declared.State.{State}
@@ -26,35 +27,31 @@ use Rattle.tracer.specs.Laws.Done.{line_made}
 use Rattle.tracer.specs.Done.{LineTold, line_answer, LineDone, ClosingDone}
 use Rattle.layout.specs.Bytes.{state_bytes, state_length, state_in, no_state}
 use Rattle.layout.specs.Laws.Bytes.{all_stored, state_long}
-use Rattle.capi.specs.Calls.{fresh_number, fresh_over, state_left, FreshCall, StepCall, RunCall, LineCall, ClosingCall}
+use Rattle.capi.specs.Calls.{state_over, fresh_number, fresh_over, state_left, FreshCall, StepCall, RunCall, LineCall, ClosingCall}
 
--- ---- bytes of another length than a state's
+-- ---- fewer bytes than a state has
 module _ (img bytes : List ℕ) where
-  other_length : (length bytes ≡ state_length → ⊥) → fits img (state_in bytes) ≡ false
+  too_few : length bytes < state_length → fits img (state_in bytes) ≡ false
   unfolding state_in no_state fits cycles_fit
-  other_length n = rw (ne_eqb (length bytes) state_length n)
+  too_few h = rw (lt-leb state_length (length bytes) h)
 
-  -- a state that fits was read from bytes of a state's length
-  pub sized : state_number img (state_in bytes) ≡ 0 → length bytes ≡ state_length
-  sized e = at (ℕ_discrete (length bytes) state_length)
-    where
-      at : Dec (length bytes ≡ state_length) → length bytes ≡ state_length
-      at (yes q) = q
-      at (no n) = absurd (true≢false (sym (state_ok img (state_in bytes) e).1 ∙ other_length n))
-
--- a state that is stored over the bytes of another is all of them
-pub state-stored :
-    (bytes : List ℕ) {left : List ℕ} (s : State) → length bytes ≡ state_length → left ≡ state_bytes s ++ drop state_length bytes → left ≡ state_bytes s
-state-stored bytes s e q = all_stored bytes (state_bytes s) state_length (omega (arith, e)) q
+  -- a state that fits was read from as many bytes as a state has, or more
+  pub sized : state_number img (state_in bytes) ≡ 0 → state_length ≤ length bytes
+  sized e =
+      ⊎_elim
+      (λ (h : length bytes < state_length). absurd (true≢false (sym (state_ok img (state_in bytes) e).1 ∙ too_few h)))
+      (λ (h : state_length ≤ length bytes). h)
+      (lt-or-ge (length bytes) state_length)
 
 -- where the bytes of a state are lent there is room for a state
 stored :
-    (s : State) {bytes left : List ℕ} {written : Result ℕ Refusal} → WriteDone (state_bytes s) bytes written left → length bytes ≡ state_length
-    → (number_of written ≡ 0) × (left ≡ state_bytes s)
+    (s : State) {bytes left : List ℕ} {written : Result ℕ Refusal} → WriteDone (state_bytes s) bytes written left → state_length ≤ length bytes
+    → (number_of written ≡ 0) × (left ≡ state_over s bytes)
+unfolding state_over
 stored s {bytes} w e =
     let long = state_long s in
     let d = write_done (state_bytes s) bytes w (omega (arith, long, e)) in
-    (ap number_of d.0, all_stored bytes (state_bytes s) (length (state_bytes s)) (omega (arith, long, e)) d.1)
+    (ap number_of d.0, d.1 ∙ ap (λ (n : ℕ). state_bytes s ++ drop n bytes) long)
 
 -- ---- a fresh state
 module _ (old : List ℕ) {img : List ℕ} {answer : Told} (d : FreshDone img answer) where
@@ -64,7 +61,7 @@ module _ (old : List ℕ) {img : List ℕ} {answer : Told} (d : FreshDone img an
 
   module _ {written : Result ℕ Refusal} {left : List ℕ} (w : WriteDone (state_bytes answer.state) old written left) where
     fresh-left : left ≡ fresh_over img old
-    unfolding fresh_over written_over
+    unfolding fresh_over state_over written_over
     fresh-left =
         w.over ∙ rw (state_long answer.state)
         (ap (λ (a : Told). old if ltb (length old) state_length else (state_bytes a.state ++ drop state_length old)) d.answered)
@@ -97,7 +94,7 @@ module _
   unfolding step_answer
   step-number = ap (λ (a : Told). a.number) d.answered
 
-  step-sized : answer.number ≡ 0 → length bytes ≡ state_length
+  step-sized : answer.number ≡ 0 → state_length ≤ length bytes
   unfolding number_of_step
   step-sized z = sized img bytes (number_ok img (state_in bytes) word (length letters) (length values) (sym step-number ∙ z)).0
 
@@ -122,10 +119,10 @@ module _
 
 -- ---- a run
 module _ (bytes : List ℕ) {img words : List ℕ} {answer : RunTold} (d : RunDone img (state_in bytes) words answer) where
-  run-sized : (answer.steps ≡ 0 → ⊥) → length bytes ≡ state_length
+  run-sized : (answer.steps ≡ 0 → ⊥) → state_length ≤ length bytes
   run-sized h = at (ℕ_discrete (state_number img (state_in bytes)) 0)
     where
-      at : Dec (state_number img (state_in bytes) ≡ 0) → length bytes ≡ state_length
+      at : Dec (state_number img (state_in bytes) ≡ 0) → state_length ≤ length bytes
       at (yes e) = sized img bytes e
       at (no n) = absurd (h (ap (λ (a : RunTold). a.steps) (d.answered ∙ sym (run_none img (state_in bytes) words n))))
 
@@ -137,7 +134,7 @@ module _ (bytes : List ℕ) {img words : List ℕ} {answer : RunTold} (d : RunDo
         numbered = ap (λ (a : RunTold). a.number) d.answered;
         counted = ap (λ (a : RunTold). a.steps) d.answered;
         changed = (stored answer.state w (run-sized h)).1 ∙ rw (ne_eqb answer.steps 0 h)
-            (ap (λ (a : RunTold). state_bytes a.state) d.answered);
+            (ap (λ (a : RunTold). state_over a.state bytes) d.answered);
       }
 
   pub run_refused : answer.steps ≡ 0 → RunCall img bytes words answer.number answer.steps bytes
@@ -155,7 +152,7 @@ module _
   line_number : answer.number ≡ (line_answer img (state_in bytes) word out).number
   line_number = ap (λ (a : LineTold). a.number) d.answered
 
-  line_sized : answer.number ≡ 0 → length bytes ≡ state_length
+  line_sized : answer.number ≡ 0 → state_length ≤ length bytes
   unfolding line_answer
   line_sized z =
       let number = step_number img (state_in bytes) word 96 96 in

@@ -13,8 +13,9 @@ use Rattle.verdict.specs.Judge.{judge}
 use Rattle.state.specs.declared.State.{State}
 use Rattle.state.specs.State.{state_of}
 use Rattle.cycle.specs.Cycle.{state_after, after}
+use Rattle.cycle.specs.Laws.Cycle.{cycles-next}
 use Rattle.fitting.specs.Fits.{fits}
-use Rattle.cycle.specs.Run.{sets_above, step_more, ran_from, run_answer}
+use Rattle.cycle.specs.Run.{sets_above, RunTold, step_more, ran_from, run_answer}
 use Rattle.cycle.specs.Loops.Taken.{TakenTold, take_more, taken_from, taken_after}
 
 -- ---- the run: the loop over its words, from the first on
@@ -95,6 +96,39 @@ ran_taken img (word ∷ words) s = go (eqb s.cycles 1000000) (sets_above (nodes 
     go true b e = refl
     go false true e = refl
     go false false e = ap step_more e
+
+-- what each cycle up to the last cycle count keeps of a state, a run keeps
+pub ran_kept :
+    (img : List ℕ) (P : State → Type 0) → ((word : ℕ) (s : State) → P s → (s.cycles ≡ 1000000 → ⊥) → P (state_after img word s))
+    → (words : List ℕ) (s : State) → P s → P (ran_from img s words).state
+unfolding ran_from step_more
+ran_kept img P next [] s p = p
+ran_kept img P next (word ∷ words) s p =
+    go (eqb s.cycles 1000000) (sets_above (nodes img) word) refl (λ n. ran_kept img P next words (state_after img word s) (next word s p n))
+  where
+    go :
+        (a b : Bool) → eqb s.cycles 1000000 ≡ a → ((s.cycles ≡ 1000000 → ⊥) → P (ran_from img (state_after img word s) words).state)
+        → P (record { steps = 0; number = 22; state = s } if a else record { steps = 0; number = 12; state = s } if b else
+        step_more (ran_from img (state_after img word s) words)).state
+    go true b e r = p
+    go false true e r = p
+    go false false e r = r (λ q. true≢false (sym (eq-eqb s.cycles 1000000 q) ∙ e))
+
+-- "steps equal the rise of the cycle count"
+pub ran_rise : (img words : List ℕ) (s : State) → (ran_from img s words).state.cycles ≡ s.cycles + (ran_from img s words).steps
+unfolding ran_from step_more
+ran_rise img [] s = sym (add-zero s.cycles)
+ran_rise img (word ∷ words) s = go (eqb s.cycles 1000000) (sets_above (nodes img) word) (ran_rise img words (state_after img word s))
+  where
+    go :
+        (a b : Bool) → (ran_from img (state_after img word s) words).state.cycles ≡
+        (state_after img word s).cycles + (ran_from img (state_after img word s) words).steps
+        → let r = ◌if◌else◌ {A = RunTold} (record { steps = 0; number = 22; state = s }) a
+        (◌if◌else◌ {A = RunTold} (record { steps = 0; number = 12; state = s }) b (step_more (ran_from img (state_after img word s) words))) in
+        r.state.cycles ≡ s.cycles + r.steps
+    go true b e = sym (add-zero s.cycles)
+    go false true e = sym (add-zero s.cycles)
+    go false false e = e ∙ rw (cycles-next img word s) (omega arith)
 
 -- what a run returns: where the judge refuses the image, where the state does not fit it, and where it takes its words
 module _ (img : List ℕ) (s : State) (words : List ℕ) where

@@ -2,7 +2,6 @@
 use Rattle.std.proofs.Common.{ℕ, ap, ◌∙◌, arith}
 use Rattle.refusal.specs.Laws.Number.{number_positive}
 use Rattle.cycle.specs.Laws.Run.{run_judged}
-use Rattle.cycle.specs.Run.{RunTold}
 use Rattle.engine.proofs.run.Goals as goal
 
 pub returns-in-Err : goal.returns-in-Err
