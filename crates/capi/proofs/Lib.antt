@@ -1,2 +1,0 @@
--- What is written is read back: calls on bytes are those of the crates below.
-pub mod Back

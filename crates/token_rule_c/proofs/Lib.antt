@@ -1,0 +1,3 @@
+-- The theorem and its laws.
+pub mod Back
+pub mod TokenRule

@@ -1,0 +1,2 @@
+-- What the proof carries from call to call.
+pub mod Typed
