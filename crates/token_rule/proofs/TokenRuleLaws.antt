@@ -1,5 +1,5 @@
 -- The token rule, the theorem. Assumes nothing.
-use Rattle.std.specs.Prelude.{Bool, false, not, List, [], ◌∷◌, ◌++◌, ◌≢◌, ◌≡◌, ℕ, ◌+◌, ◌<◌, ◌≤◌, eqb, ltb}
+use Rattle.std.specs.Prelude.{Bool, false, not, List, [], ◌∷◌, ◌++◌, ◌≢◌, ◌≡◌, refl, ℕ, ◌+◌, ◌<◌, ◌≤◌, eqb, ltb}
 use Rattle.std.proofs.Math.Bool.{true}
 use Rattle.std.proofs.Common.{append-nil, sym, ap, subst, ◌∙◌, zero-add, arith, eqb-true, eq-eqb, ne_eqb, length-append}
 use Rattle.std.proofs.Math.ListN.{length}
@@ -24,7 +24,8 @@ use Rattle.token_rule.specs.Laws.Safety.{sound-fresh}
 use Rattle.token_rule.proofs.ArrivalsLaws.{arrivals-fresh}
 use Rattle.token_rule.specs.Progress.{Furthest}
 use Rattle.token_rule.proofs.ProgressLaws.{progress}
-use Rattle.token_rule.specs.Calls.{Step, Run, Call, step, run, number_of, Done, Chain, last_state, makes, run_cycles, cycles_of}
+use Rattle.token_rule.specs.Given.{Given, a_step, a_run, answered, answers}
+use Rattle.token_rule.specs.Calls.{Step, Run, Call, step, run, number_of, returned, Done, Chain, last_state, makes, run_cycles, cycles_of}
 use Rattle.token_rule.proofs.AnswersLaws.{chosen, SteppedWell, step-done, RanWell, run-done}
 use Rattle.token_rule.proofs.CallsLaws.{chain_first, chain_second, cycles_placed, cycles_few, chain-state}
 use Rattle.token_rule.specs.TokenRule.{TokenRule}
@@ -156,3 +157,20 @@ token_rule img fresh calls e done chain =
     let same = fresh-state img fresh e done in
     subst (λ (s : State). TokenRule img s calls (cycles_of img 0 calls)) (sym same)
     (rule img (accepted img e) calls (subst (λ (s : State). Chain img s calls) same chain))
+
+-- ---- the rule speaks of something: whatever the calls of a list are given, they can be answered so that the list is a chain
+call-answered : (img : List ℕ) (s : State) (given : Given) → Done img s (answered img s given)
+unfolding Done answered
+call-answered img s (a_step word letters values) = record { answered = refl; lettered = refl; valued = refl }
+call-answered img s (a_run words) = record { answered = refl }
+
+some-chain : (img : List ℕ) (s : State) (given : List Given) → Chain img s (answers img s given)
+unfolding Chain answers
+some-chain img s [] = tt
+some-chain img s (given ∷ more) = (call-answered img s given, some-chain img (returned (answered img s given)) more)
+
+-- the token rule holds for all accepted images and all lists of inputs
+pub token_rule_given :
+    (img : List ℕ) (given : List Given) → judge img ≡ 0
+    → let calls = answers img (fresh_state img) given in TokenRule img (fresh_state img) calls (cycles_of img 0 calls)
+token_rule_given img given e = rule img (accepted img e) (answers img (fresh_state img) given) (some-chain img (fresh_state img) given)

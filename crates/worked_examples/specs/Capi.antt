@@ -1,5 +1,5 @@
 -- The bytes that C is handed, computed: tokens at the ends of their range; figure 4's state after five cycles, and one with stations and tokens below
--- 0 after twelve; bytes of another length; rows of whole records and others.
+-- 0 after twelve; bytes of other lengths; rows of whole records and others.
 use mathlib.Core.List.{List, [], ◌∷◌, ◌++◌, map, flat_map}
 use Rattle.std.specs.Prelude.{◌≡◌, refl, ℕ, pos, negsuc, take, drop, replicate}
 use Rattle.laws.specs.Below.{all_below, any_below, sum_below, pick_below}
@@ -106,11 +106,11 @@ unfolding all_below any_below pick_below signed padded table flat_map
     number_bytes bits_of token_bytes node_bytes station_bytes queue_bytes state_bytes
 stationed_bytes = record { nodes-first = refl; full-station = refl; three_stations = refl; a_queue = refl }
 
--- bytes that are no state: none, one too few, one too many
+-- bytes of another length than a state's: none, one too few, and one more, which is not looked at
 record Lengths : Type 0 where
   none : state_number figure4 (state_in []) ≡ 21
   too_few : state_number figure4 (state_in (replicate 10691 0)) ≡ 21
-  too_many : state_number figure4 (state_in (replicate 10693 0)) ≡ 21
+  one_more : (state_in (four 5 ++ replicate 10689 0)).cycles ≡ 5
   -- rows of 0, 5, 9, 10, 72, 73, 80 and 81 bytes
   rows :
       map (λ n. bench_number (row_in (replicate n 0))) (0 ∷ 5 ∷ 9 ∷ 10 ∷ 72 ∷ 73 ∷ 80 ∷ 81 ∷ []) ≡ 15 ∷ 21 ∷ 0 ∷ 21 ∷ 0 ∷ 15 ∷ 15 ∷ 15 ∷ []
@@ -121,4 +121,4 @@ lengths : Lengths
 unfolding all_below any_below sum_below zero_from nodes channels kind parameter wire from to port feeds depths stations depth inputs
     judge bad_kind bad_wire bad_port fed_twice not_fed bad_stations bad_depth fits cycles_fit state_number bench_number bench.fits
     table flat_map signed token_in station_in places_in no_state state_in no_record record_in row_record record_count row_in
-lengths = record { none = refl; too_few = refl; too_many = refl; rows = refl; records = refl }
+lengths = record { none = refl; too_few = refl; one_more = refl; rows = refl; records = refl }

@@ -32,6 +32,7 @@ use Rattle.cycle.specs.Cycle.{state_after, after, letters_of, values_of}
 use Rattle.fitting.specs.Fits.{cycles_fit, firings_fit, pending_fit, stations_fit, counts_fit, node_clear, pending_clear, station_clear, queue_clear}
 use Rattle.fitting.specs.Fits.{unused_clear, balanced, fits}
 use Rattle.cycle.specs.Run.{sets_above, step_more, ran_from, run_answer}
+use Rattle.readings.specs.Shown.{shown_number, letters_shown, values_shown}
 use Rattle.engine.specs.Answer.{step_number, number_of_step, step_answer, letters_written, values_written}
 use Rattle.engine.specs.Laws.Answer.{step-none, step-made}
 
@@ -253,6 +254,11 @@ record Answered : Type 0 where
   none-answer : record { number = 12; state = at 0 } ≡ step_answer figure4 (at 0) 32 letters values
   none-letters : letters ≡ letters_written figure4 (at 0) 32 letters values
   none-values : values ≡ values_written figure4 (at 0) 32 letters values
+  -- letters and values are shown whatever the word; where an array is too short neither is
+  shown-letters : letters_shown figure4 (at 0) letters values ≡ code "T" ∷ code "T" ∷ code "T" ∷ code "T" ∷ 7 ∷ 7 ∷ []
+  shown-values : values_shown figure4 (at 0) letters values ≡ pos 10 ∷ pos 100 ∷ pos 0 ∷ pos 0 ∷ pos 7 ∷ pos 7 ∷ []
+  shown_13 : shown_number figure4 (at 0) (7 ∷ 7 ∷ 7 ∷ []) values ≡ 13
+  shown_none : (letters_shown figure4 (at 0) (7 ∷ 7 ∷ 7 ∷ []) values ≡ 7 ∷ 7 ∷ 7 ∷ []) × (values_shown figure4 (at 0) (7 ∷ 7 ∷ 7 ∷ []) values ≡ values)
   -- a run stops at a word that it cannot take, and keeps the cycles before it
   run_12 : run_answer figure4 (at 0) (1 ∷ 0 ∷ 32 ∷ 0 ∷ []) ≡ record { steps = 2; number = 12; state = after figure4 (at 0) (1 ∷ 0 ∷ []) }
   run_first : run_answer figure4 (at 0) (32 ∷ []) ≡ record { steps = 0; number = 12; state = at 0 }
@@ -271,7 +277,7 @@ unfolding any_below sum_below padded table nodes channels kind wire from to port
     judge bad_kind bad_wire bad_port fed_twice not_fed bad_stations bad_depth
     letter reading held leaving waiting queue_of full arriving stop_below channel_reading
     node_at pending_at station_at queue_at channel_in state_of reading_at state_after after letters_of values_of
-    cycles_fit fits sets_above step_number number_of_step step_more ran_from run_answer
+    cycles_fit fits sets_above shown_number letters_shown values_shown step_number number_of_step step_more ran_from run_answer
 answered =
     let step = step-made figure4 (at 0) 1 letters values 0 (sym (step-sound 0 1 6 6 refl)) refl in
     let none = step-none figure4 (at 0) 32 letters values 12 (sym (step-sound 0 32 6 6 refl)) (λ e. omega arith) in
@@ -292,6 +298,10 @@ answered =
       none-answer = none.0;
       none-letters = none.1;
       none-values = none.2;
+      shown-letters = refl;
+      shown-values = refl;
+      shown_13 = refl;
+      shown_none = (refl, refl);
       run_12 = run_sound 0 (1 ∷ 0 ∷ 32 ∷ 0 ∷ []) refl;
       run_first = run_sound 0 (32 ∷ []) refl;
       run_22 = run_sound 999998 (1 ∷ 0 ∷ 32 ∷ []) refl;

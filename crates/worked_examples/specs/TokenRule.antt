@@ -1,4 +1,4 @@
--- The words of the token rule, computed; and that its premise can be met.
+-- The words of the token rule, computed.
 use Rattle.std.specs.Prelude.{true, List, [], ◌∷◌, ◌≡◌, refl, ℕ, ℤ, pos, replicate}
 use Rattle.laws.specs.Below.{all_below, any_below, most_below, pick_below}
 use Rattle.laws.specs.Signed.{signed}
@@ -14,14 +14,12 @@ use Rattle.relay.specs.Station.{held, station_of, place_after}
 use Rattle.relay.specs.Row.{stopped, leaving, row_after}
 use Rattle.shell.specs.Queue.{waiting, queue_of, full}
 use Rattle.shell.specs.Channel.{blocked, arriving, input, stop_below, stop_above, channel_reading, channel_after}
-use Rattle.state.specs.declared.State.{State}
 use Rattle.state.specs.State.{node_at, pending_at, station_at, queue_at, channel_in, state_of}
 use Rattle.state.specs.Fresh.{fresh_state, zeros}
 use Rattle.cycle.specs.Cycle.{stalled, input_at, blocked_at, reading_at, all_ready, any_blocked, fires, node_after, channel_after_at, state_after}
-use Rattle.cycle.specs.Run.{sets_above, run_answer}
-use Rattle.engine.specs.Answer.{step_answer, letters_written, values_written}
+use Rattle.cycle.specs.Run.{sets_above}
 use Rattle.token_rule.specs.Cycles.{fired_in, arrivals}
-use Rattle.token_rule.specs.Calls.{Call, step, run, returned, Done, Chain, goes, roomy, makes, run_cycles, cycles_in, cycles_of}
+use Rattle.token_rule.specs.Calls.{Call, step, run, goes, roomy, makes, run_cycles, cycles_in, cycles_of}
 use Rattle.token_rule.specs.Progress.{most_stations, Awake}
 
 -- ---- the cycles of a list
@@ -49,36 +47,6 @@ made :
     × (cycles_of figure4 999998 (told (0 ∷ []) ∷ told (1 ∷ 2 ∷ []) ∷ asked 0 4 4 ∷ []) ≡ 0 ∷ 1 ∷ [])
 unfolding nodes channels sets_above goes roomy makes run_cycles cycles_in cycles_of
 made = (refl, refl)
-
--- ---- every list of calls can be answered so that it is a chain
--- what a call is given
-data Given : Type 0 where
-  a_step : ℕ → List ℕ → List ℤ → Given
-  a_run : List ℕ → Given
-
-abbrev answered : List ℕ → State → Given → Call
-answered img s (a_step w letters values) =
-    step
-    record {
-      word = w;
-      letters = letters;
-      values = values;
-      answer = step_answer img s w letters values;
-      letters_left = letters_written img s w letters values;
-      values_left = values_written img s w letters values;
-    }
-answered img s (a_run words) = run record { words = words; answer = run_answer img s words }
-
-abbrev answers : List ℕ → State → List Given → List Call
-answers img s [] = []
-answers img s (g ∷ gs) = answered img s g ∷ answers img (returned (answered img s g)) gs
-
-some_chain : (img : List ℕ) (s : State) (gs : List Given) → Chain img s (answers img s gs)
-unfolding Chain Done
-some_chain img s [] = tt
-some_chain img s (a_step w letters values ∷ gs) =
-    (record { answered = refl; lettered = refl; valued = refl }, some_chain img (returned (answered img s (a_step w letters values))) gs)
-some_chain img s (a_run words ∷ gs) = (record { answered = refl }, some_chain img (returned (answered img s (a_run words))) gs)
 
 -- ---- figure 4's eleven cycles: what has arrived on channel 1, where 105 stood a cycle before it passed, and the firings of node 0
 words : List ℕ
