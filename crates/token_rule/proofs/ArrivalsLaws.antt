@@ -2,8 +2,8 @@
 use Prim.Native.Char.{code}
 use Rattle.std.specs.Prelude.{Bool, true, false, ◌≡◌, ℕ, ◌+◌, ◌<◌, eqb, ℤ}
 use mathlib.Core.List.{List, [], ◌∷◌, ◌++◌}
-use Rattle.std.proofs.Math.Path.{ap}
-use Rattle.std.proofs.Common.{arith}
+use Rattle.std.proofs.Math.Path.{ap, sym}
+use Rattle.std.proofs.Common.{subst, arith}
 use Rattle.std.proofs.Math.ListN.{length}
 use Rattle.laws.specs.Lists.{one_if}
 use Rattle.laws.specs.Stretch.{Stretch}
@@ -73,8 +73,9 @@ module _ (img : List ℕ) (a : Accepted img) (c : ℕ) (h : c < channels img) wh
   arrivals-next [] s steady ok = tt
   arrivals-next (w ∷ words) s steady ok =
       let next = state_after img w s in
-      rw (reading_now img s c)
-      (stretch-append (stream img c) (arrived_so_far img s c) (arriving_now img s c) (arrivals img next words c) (stretch_now img s c ok h)
+      let came = arrivals img next words c in
+      subst (λ (now : List ℤ). Stretch (stream img c) (arrived_so_far img s c) (now ++ came)) (sym (reading_now img s c))
+      (stretch-append (stream img c) (arrived_so_far img s c) (arriving_now img s c) came (stretch_now img s c ok h)
       (rw (← (arrived_next w s)) (arrivals-next words next (steady-next img a w s steady) (sound-next img a w s steady ok))))
 
   pub arrivals-fresh : (words : List ℕ) → let arrived = arrivals img (fresh_state img) words c in arrived ≡ table (stream img c) (length arrived)

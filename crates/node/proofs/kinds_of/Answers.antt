@@ -1,5 +1,5 @@
 -- `node::kinds_of` meets its contract. The loop's invariant: the kinds of the nodes below n are read. Assumes nothing.
-use mathlib.Core.Path.{◌≡◌}
+use mathlib.Core.Path.{◌≡◌, ap}
 use mathlib.Core.Bool.{false}
 use Prim.Native.Nat.{◌<◌}
 use native.Mathlib.Numerals.{add-one}
@@ -8,6 +8,7 @@ use borrow.Author.Tests.{le-ltb}
 use Rattle.laws.specs.Range.{outside}
 use Rattle.image.specs.Image.{nodes, kind}
 use Rattle.verdict.specs.Laws.Accepted.{accepted}
+use Rattle.image.specs.declared.Core.{Core}
 use Rattle.image.specs.Readers.{core_at}
 use Rattle.pearl.specs.Laws.Kind.{decodes_ok, kind_byte-decoded}
 use Rattle.node.specs.Laws.Kinds.{kinds_none, kinds_more}
@@ -19,8 +20,8 @@ unwrap-requires c =
     let img = c.args.netlist.image.now in
     let h : c.loop-n.n < nodes img = omega (arith, c.nodes-n-end.ensures.value) in
     let r = (accepted img c.args.netlist.accepted).kinds c.loop-n.n h in
-    let e : outside 1 9 c.core.result.kind ≡ false =
-    rw (c.core.ensures, le-ltb (kind img c.loop-n.n) 1 r.0, le-ltb 9 (kind img c.loop-n.n) r.1) in
+    let k : c.core.result.kind ≡ kind img c.loop-n.n = ap (λ (x : Core). x.kind) c.core.ensures in
+    let e : outside 1 9 c.core.result.kind ≡ false = rw (k, le-ltb (kind img c.loop-n.n) 1 r.0, le-ltb 9 (kind img c.loop-n.n) r.1) in
     decodes_ok c.core.result.kind c.try_from.result e c.try_from.ensures
 
 pub loop-n-init : goal.loop-n-init

@@ -5,10 +5,10 @@ use borrow.Author.Rules.{rules}
 use lib.IntN.{ℤ, pos, negsuc}
 use lib.Signed.{shr_z, mag_shr}
 use mir.Syntax.{w32}
-use mir.Val.{SFits}
+use mir.Val.{SFits, to_z, of_z}
 use mir.Facts.{to_z-of_z}
 use mir.ValLaws.{sfits_le}
-use Rattle.pearl.specs.declared.Kind.TheVariants.{Choose}
+use Rattle.pearl.specs.declared.Kind.TheVariants.{Halve, Choose}
 use Rattle.pearl.specs.Wrap.{wrap}
 use Rattle.pearl.specs.Next.{halve, larger, choose, exact, next_value}
 use Rattle.pearl.specs.Laws.Next.{larger-int_max}
@@ -43,7 +43,10 @@ pub returns-in-Halve : goal.returns-in-Halve
 unfolding next_value exact
 returns-in-Halve c =
     let f : SFits w32 (shr_z c.args.a 2) = sfits_le (mag_shr c.args.a 2) c.ranges.a in
-    rw (c.in-Halve.is, to_z-of_z c.ranges.a, to_z-of_z f) (sym (wrap-fits (shr_z c.args.a 2) f) ∙ ap wrap (shr_z-halve c.args.a))
+    let kind : c.args.self ≡ Halve = c.in-Halve.is in
+    ap (λ (x : ℤ). to_z w32 (of_z w32 (shr_z x 2))) (to_z-of_z c.ranges.a)
+    ∙ to_z-of_z f
+    ∙ rw kind (sym (wrap-fits (shr_z c.args.a 2) f) ∙ ap wrap (shr_z-halve c.args.a))
 
 pub returns-in-Sum : goal.returns-in-Sum
 unfolding next_value exact
