@@ -5,7 +5,7 @@
 #![tactic(auto)]
 
 ghost use Rattle.std.specs.Prelude.{◌≡◌, Some, codes, IfOk, IfErr};
-ghost use Rattle.input.specs.Input.{Read, Whole};
+ghost use Rattle.input.specs.Input.{Whole, Part};
 
 use std::{fmt, io};
 
@@ -47,7 +47,7 @@ impl From<Unread> for io::Error {
 // one that failed.
 pub fn read_to_end<R: io::Read>(reader: &mut R, buffer: &mut [u8]) -> Result<Input, Unread>
     ensures ok { IfOk result (λ input. Whole (R.remaining reader.old) input buffer.new) }
-    ensures err { IfErr result (λ unread. Read (R.remaining reader.old) unread.before buffer.new) }
+    ensures err { IfErr result (λ unread. Part (R.remaining reader.old) unread.before buffer.new) }
 {
     let mut read = Input { kept: 0, length: 0 };
     // No `for`: it goes on by as much as a read brings.
