@@ -3,5 +3,5 @@ use Rattle.std.specs.Prelude.{List, ℕ, ◌++◌, ◌==◌, if◌then◌else◌
 use Rattle.std.specs.Fmt.{decimal}
 
 -- `accepted`, or `refused` and the number of the image
-abbrev pub line_text : ℕ → List ℕ
-line_text number = if number == 0 then codes "accepted\n" else codes "refused " ++ (decimal number ++ codes "\n")
+abbrev pub verdict_text : ℕ → List ℕ
+verdict_text number = if number == 0 then codes "accepted\n" else codes "refused " ++ (decimal number ++ codes "\n")

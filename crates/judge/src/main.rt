@@ -10,9 +10,10 @@
 ghost use Rattle.std.specs.Prelude.{◌≡◌, Some};
 ghost use Rattle.refusal.specs.Number.{number_of};
 ghost use Rattle.verdict.specs.Judge.{judge};
-ghost use Rattle.judge.specs.Line.{line_text};
+ghost use Rattle.judge.specs.Line.{verdict_text};
 
 use refusal::Refusal;
+use std::env::{Env, FillError};
 use std::fmt;
 use std::process::ExitCode;
 
@@ -23,7 +24,7 @@ struct Line {
 }
 
 impl fmt::Display for Line {
-    ghost output = { λ line. Some (line_text (number_of line.verdict)) };
+    ghost output = { λ line. Some (verdict_text (number_of line.verdict)) };
 
     fn fmt<W: fmt::Write>(&self, f: &mut fmt::Formatter<W>) -> fmt::Result {
         match self.verdict {
@@ -49,7 +50,9 @@ fn failed<D: fmt::Display + Drop>(rt: &impl Eprint, line: D) -> ExitCode {
 }
 
 fn main(rt: HostRuntime) -> ExitCode {
-    if os::arg_count() > 1 {
+    // An argument is there if it can be read, or is too long for no room. It is asked for here: a function
+    // over `Env` would rest on all that the environment can do.
+    if !matches!(rt.arg(1, &mut []), Err(FillError::NotPresent)) {
         return failed(&rt, "usage: judge < IMAGE");
     }
     let mut image = [0u8; 803];

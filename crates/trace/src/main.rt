@@ -28,6 +28,7 @@ ghost use Rattle.tracer.specs.Trace.{cycle_text, firings_of};
 
 use refusal::Refusal;
 use state::State;
+use std::env::{Env, FillError};
 use std::process::ExitCode;
 use std::{fmt, io};
 
@@ -163,7 +164,9 @@ fn failed<D: fmt::Display + Drop>(rt: &impl Eprint, line: D) -> ExitCode {
 }
 
 fn main(rt: HostRuntime) -> ExitCode {
-    if os::arg_count() > 1 {
+    // An argument is there if it can be read, or is too long for no room. It is asked for here: a function
+    // over `Env` would rest on all that the environment can do.
+    if !matches!(rt.arg(1, &mut []), Err(FillError::NotPresent)) {
         return failed(&rt, "usage: trace < INPUT");
     }
     let mut bytes = [0u8; LONGEST];
