@@ -1,2 +1,2 @@
--- What holds of an input that was read to its end: how many bytes came, and how many were kept.
+-- What holds of an input that was read to its end, and what is left free.
 pub mod Input

@@ -1,10 +1,11 @@
-// Standard input, read to its end. What the bytes are no contract can say; what is promised is that
-// the counts are right for the buffer that was lent, so that a program can take the part that holds
-// the input without a test of its own.
+// Standard input, read to its end. What it brings no contract can say: that is left free, and named in
+// specs/Input.antt. What is promised is that the bytes kept are the first that the reader brings, and
+// that the counts are right for the buffer that was lent, so that a program can take the part that
+// holds the input without a test of its own.
 #![tactic(auto)]
 
 ghost use Rattle.std.specs.Prelude.{◌≡◌, Some, codes, IfOk, IfErr};
-ghost use Rattle.input.specs.Input.{Read};
+ghost use Rattle.input.specs.Input.{Whole, Part};
 
 use std::{fmt, io};
 
@@ -17,7 +18,7 @@ pub struct Input {
     pub length: u64,
 }
 
-// A read that failed. `before` is what came before it.
+// A read that failed. `before` is what came before it and had room.
 #[derive(Debug, Drop)]
 pub struct Unread {
     pub before: Input,
@@ -40,53 +41,37 @@ impl From<Unread> for io::Error {
     }
 }
 
-// A writer that only counts what is written to it.
-#[derive(Drop)]
-struct Counter {
-    length: u64,
-}
-
-impl io::Write for Counter {
-    fn write(&mut self, bytes: &[u8]) -> io::Result<usize> {
-        self.length = self.length.saturating_add(bytes.len() as u64);
-        Ok(bytes.len())
-    }
-
-    fn flush(&mut self) -> io::Result<()> {
-        Ok(())
-    }
-}
-
 // Returns what was read, given a reader, such as standard input, that is read to its end however short
 // the reads come: the first bytes are left in the buffer, as many as it holds, and the others are only
 // counted. Returns `Unread` if a read failed; a read into the buffer that a signal interrupts counts as
 // one that failed.
 pub fn read_to_end<R: io::Read>(reader: &mut R, buffer: &mut [u8]) -> Result<Input, Unread>
-    ensures ok { IfOk result (λ input. Read input buffer.new) }
-    ensures err { IfErr result (λ unread. Read unread.before buffer.new) }
+    ensures ok { IfOk result (λ input. Whole (R.remaining reader.old) input buffer.new) }
+    ensures err { IfErr result (λ unread. Part (R.remaining reader.old) unread.before buffer.new) }
 {
+    let mut read = Input { kept: 0, length: 0 };
     // No `for`: it goes on by as much as a read brings.
-    let mut kept: usize = 0;
-    while kept < buffer.len() {
-        let before = Input {
-            kept,
-            length: kept as u64,
-        };
-        match reader.read(&mut buffer[kept..]) {
-            Ok(0) => return Ok(before),
-            Ok(count) => kept += count,
-            Err(error) => return Err(Unread { before, error }),
+    while read.kept < buffer.len() {
+        match reader.read(&mut buffer[read.kept..]) {
+            Ok(0) => return Ok(read),
+            Ok(count) => {
+                read.kept += count;
+                read.length += count as u64;
+            }
+            Err(error) => return Err(Unread {
+                before: read,
+                error,
+            }),
         }
     }
-    let mut rest = Counter { length: 0 };
-    let copied = io::copy(reader, &mut rest);
-    let read = Input {
-        kept,
-        length: rest.length.saturating_add(kept as u64),
-    };
-    copied.map_err(|error| Unread {
-        before: read,
-        error,
-    })?;
-    Ok(read)
+    match io::copy(reader, &mut io::sink()) {
+        Ok(rest) => Ok(Input {
+            length: rest.saturating_add(read.length),
+            ..read
+        }),
+        Err(error) => Err(Unread {
+            before: read,
+            error,
+        }),
+    }
 }

@@ -3,7 +3,8 @@
 //
 // The whole input is read and judged before anything is printed. Each line is made as a value, whose
 // contract says which line of the trace it is, and is then printed by one write; a write that fails
-// ends the program. Where the input cannot be read, nothing is printed.
+// ends the program. Where the input cannot be read, or a line cannot be written, or there are
+// arguments, a line on standard error says so, and the status is 1.
 //
 // Reads its input, asks `trace_input::judge`, and makes each line as a value, by a call with an array
 // of its own. The contract of `cycle_line` says that the first bytes are `cycle_text` of the state and
@@ -27,7 +28,9 @@ ghost use Rattle.tracer.specs.Trace.{cycle_text, firings_of};
 
 use refusal::Refusal;
 use state::State;
-use std::io;
+use std::env::{Env, FillError};
+use std::process::ExitCode;
+use std::{fmt, io};
 
 // The longest input that is not refused: an image of 802 bytes and 4,096 words. What is beyond is only
 // counted (`tracer`'s specs/Laws/Head.antt).
@@ -153,11 +156,26 @@ fn trace(rt: &impl Print, input: &[u8], size: u64) -> io::Result<()>
     }
 }
 
-fn main(rt: HostRuntime) {
+// Prints a line that tells why there is no trace, or not all of it. Where that cannot be printed either, the
+// status says it alone.
+fn failed<D: fmt::Display + Drop>(rt: &impl Eprint, line: D) -> ExitCode {
+    let _ = rt.eprintln(line);
+    ExitCode::FAILURE
+}
+
+fn main(rt: HostRuntime) -> ExitCode {
+    // An argument is there if it can be read, or is too long for no room. It is asked for here: a function
+    // over `Env` would rest on all that the environment can do.
+    if !matches!(rt.arg(1, &mut []), Err(FillError::NotPresent)) {
+        return failed(&rt, "usage: trace < INPUT");
+    }
     let mut bytes = [0u8; LONGEST];
-    // What cannot be printed ends the program, which then has nobody to tell.
-    let _ = match input::read_to_end(&mut rt.stdin(), &mut bytes) {
-        Ok(input) => trace(&rt, &bytes[..input.kept], input.length),
-        Err(unread) => eprintln!(rt; "trace: {unread}"),
+    let input = match input::read_to_end(&mut rt.stdin(), &mut bytes) {
+        Ok(input) => input,
+        Err(unread) => return failed(&rt, format_args!("trace: {unread}")),
     };
+    match trace(&rt, &bytes[..input.kept], input.length) {
+        Ok(()) => ExitCode::SUCCESS,
+        Err(_) => failed(&rt, "trace: standard output cannot be written"),
+    }
 }

@@ -1,0 +1,2 @@
+-- The line that the program prints.
+pub mod Line
