@@ -11,16 +11,15 @@ use Rattle.std.proofs.Math.ListN.{length, get_or}
 use Rattle.std.proofs.lemmas.List.{length-map}
 use Rattle.std.specs.Result.{is_ok}
 use Rattle.laws.specs.Below.{all_below}
-use Rattle.laws.specs.Laws.Cases.{true_or_false, lt-or-ge, or_left}
+use Rattle.laws.specs.Laws.Cases.{lt-or-ge, or_left}
 use Rattle.laws.specs.Choice.{◌if◌else◌}
 use Rattle.laws.specs.Lists.{holds, holds_two}
 use Rattle.relay.specs.declared.Station.{Station}
 use Rattle.relay.specs.Link.{Link, token, link_of, passing}
 use Rattle.relay.specs.Laws.Link.{link_of-take, passing-holds}
-use Rattle.relay.specs.Station.{held, station_of, place_after}
+use Rattle.relay.specs.Station.{held, station_of, place_after, no_station}
 use Rattle.relay.specs.Row.{stopped, leaving, row_after, link_at}
 use Rattle.relay.specs.Laws.Row.{length-after, leaving-at, stopped_inside}
-use Rattle.relay.specs.RowCycle.{no_station}
 use Rattle.bench.specs.declared.Answer.{Answer}
 use Rattle.refusal.specs.declared.Refusal.{Refusal}
 use Rattle.refusal.specs.Laws.Number.{number_positive}
@@ -59,15 +58,6 @@ module _ (row : List Station) (link : Link) (stop : Bool) where
       kept true = rw (length-map, length-after, length-map)
       kept false = refl
 
-  -- a row stays as it was if the bench is refused
-  pub bench_stays : eqb (bench_answer row link stop).number 0 ≡ false → row ≡ bench_after row link stop
-  unfolding bench_answer bench_after reply
-  bench_stays e =
-      ⊎_elim
-      (λ (t : eqb (bench_number row) 0 ≡ true). absurd (true≢false (rw t at e)))
-      (λ (t : eqb (bench_number row) 0 ≡ false). rw t)
-      (true_or_false (eqb (bench_number row) 0))
-
   -- what a bench has done with a row of no records, or over 8
   bench_none : length row ≡ 0 → BenchDone row link stop (refusal 15) row
   unfolding bench_answer bench_after
@@ -90,7 +80,7 @@ module _ (row : List Station) (link : Link) (stop : Bool) where
     unfolding bench_number bench_answer bench_after
     row_unfit e = record { answered = rw (some, e); left = rw (some, e) }
 
-    -- a row that is accepted: what was taken and showed on its links, and what the walk left
+    -- a row that is accepted: what its links showed and took, and what the walk left
     pub row_walked :
         all_below (λ i. fits (get_or row i no_station)) (length row) ≡ true
         → {shows : Link} → shows ≡ link_of (link_at (token link) (map held row) (length row))
@@ -108,48 +98,22 @@ module _ (row : List Station) (link : Link) (stop : Bool) where
         ap (λ s. is_some link && not s) first ∙ sym (passing-holds link (stopped places stop)) in
         record { answered = rw (some, e) (ap₂ (λ (x : Link) (t : Bool). reply x stop t) shown taken); left = rw (some, e) a }
 
--- ---- one station
+-- ---- one station: the row of it alone
 module _ (s : Station) (link : Link) (stop : Bool) where
-  one : bench_number (s ∷ []) ≡ (21 if not (fits s) else 0)
-  unfolding bench_number all_below
-  one = refl
+  pub station_unfit : fits s ≡ false → BenchDone (s ∷ []) link stop (refusal 21) (s ∷ [])
+  unfolding all_below
+  station_unfit e = row_unfit (s ∷ []) link stop refl e
 
-  pub station_refused : fits s ≡ false → record { after = s; answer = refusal 21 } ≡ station_benched s link stop
-  unfolding station_benched bench_answer bench_after
-  station_refused e = let n : bench_number (s ∷ []) ≡ 21 = rw e at one in rw n
-
-  -- what `station_step` works out
-  pub station_worked :
+  pub station_stepped :
       fits s ≡ true
-      → record {
-        after = station_of (place_after (token link) (held s) stop);
-        answer = reply (link_of (held s)) stop (is_some link && not (holds_two (held s)));
-      } ≡ station_benched s link stop
-  unfolding station_benched bench_answer bench_after leaving stopped row_after
-  station_worked e =
-      let n : bench_number (s ∷ []) ≡ 0 = rw e at one in
-      rw (n, link_of-take)
-      (ap (λ (t : Bool). record { after = station_of (place_after (token link) (held s) stop); answer = reply (link_of (held s)) stop t })
-      (sym (passing-holds link (holds_two (held s)))))
+      → {after : Station} → after ≡ station_of (place_after (token link) (held s) stop)
+      → BenchDone (s ∷ []) link stop (reply (link_of (held s)) stop (is_some link && not (holds_two (held s)))) (after ∷ [])
+  unfolding all_below link_at row_after stopped
+  station_stepped e {after} a = row_walked (s ∷ []) link stop refl e (sym (link_of-take (held s))) (ap (λ (t : Station). t ∷ []) a)
 
-  -- what `station_step` makes of a station is what the row bench makes of the row of that station alone
-  pub station-done : let b = station_benched s link stop in BenchDone (s ∷ []) link stop b.answer (b.after ∷ [])
-  unfolding station_benched
-  station-done = record { answered = refl; left = single (bench_after (s ∷ []) link stop) (length_bench (s ∷ []) link stop) }
-    where
-      single : (l : List Station) → length l ≡ 1 → get_or l 0 no_station ∷ [] ≡ l
-      single [] e = absurd (omega arith)
-      single (x ∷ []) e = refl
-      single (x ∷ y ∷ l) e = absurd (omega arith)
-
-  -- what the row bench makes of the row of a station alone is what `station_step` makes of the station
+  -- what the bench of a station by value answers is what `station_bench` has done
   pub done-station :
       (answer : Told) (after : Station) → BenchDone (s ∷ []) link stop answer (after ∷ [])
       → let b = station_benched s link stop in (answer ≡ b.answer) × (after ≡ b.after)
   unfolding station_benched
   done-station answer after d = (d.answered, ap (λ l. get_or l 0 no_station) d.left)
-
-  -- a station that is refused stays
-  pub station_stays : let b = station_benched s link stop in eqb b.answer.number 0 ≡ false → s ≡ b.after
-  unfolding station_benched
-  station_stays e = ap (λ l. get_or l 0 no_station) (bench_stays (s ∷ []) link stop e)

@@ -11,10 +11,9 @@ use Rattle.std.specs.List.{list_all}
 use Rattle.std.proofs.lemmas.List.Folds.{list_all-append}
 use Rattle.laws.specs.Below.{all_below}
 use Rattle.relay.specs.declared.Station.{Station}
-use Rattle.relay.specs.RowCycle.{no_station}
 use Rattle.relay.specs.Link.{Link, token, link_of}
 use Rattle.relay.specs.Laws.Link.{link_of-take, token_of, token_few}
-use Rattle.relay.specs.Station.{held, station_of, place_after}
+use Rattle.relay.specs.Station.{held, station_of, place_after, no_station}
 use Rattle.relay.specs.Row.{stopped, row_after, link_at}
 use Rattle.relay.specs.Laws.Row.{link_few, after-at, stopped_inside, stopped_end, length-after}
 use Rattle.laws.specs.Lists.{holds_two}

@@ -2,7 +2,7 @@
 use Rattle.std.specs.Prelude.{Bool, List, [], ◌∷◌, ◌++◌, ℕ, get_or, take, drop}
 use Rattle.relay.specs.declared.Station.{Station}
 use Rattle.relay.specs.Link.{Link}
-use Rattle.relay.specs.RowCycle.{no_station}
+use Rattle.relay.specs.Station.{no_station}
 use Rattle.bench.specs.declared.Records.{Records}
 use Rattle.bench.specs.declared.Benched.{Benched}
 use Rattle.bench.specs.Bench.{Told, told, bench_answer, bench_after}

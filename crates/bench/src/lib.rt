@@ -3,25 +3,25 @@
 // would mean two things, since a station's stop is on the link that leaves it, a queue's on the one that
 // arrives. One station and a row are apart: a row has a length, and is refused for it.
 //
-// `station_bench` takes the station apart, steps it by value (`station_step`), and stores it back if it
-// was accepted. `row_bench` asks for 15 and 21, and then walks the row that it is lent, from the last
-// record to the first (`rows::walk`): each is worked by `Station::after`, by value, in its place. The
-// library has its records as bytes. It lends those that it read of a row, and steps a station by value.
+// `station_bench` takes the station out, works it by value, by `Station::after`, and stores it back.
+// `row_bench` walks the row in place, from the last record to the first (`rows::walk`), and works each
+// record in the same way. Nothing is stored before 15 and 21 are asked. The library has its records as
+// bytes, and lends those that it read.
 //
 // Both benches hold a reference to a struct or to a slice of structs, and the trials lend one. What a
-// bench makes of its records their proofs know by laws only (`station-done`, `station_stays`,
-// `row_none`, `row_unfit`, `row_walked`), so another rule of a bench changes none of them.
+// bench makes of its records their proofs know by laws only (`row_none`, `row_unfit`, `row_walked`), so
+// another rule of a bench changes none of them.
 #![tactic(auto)]
 
 mod rows;
-pub mod steps;
+mod steps;
 
 ghost use Rattle.std.specs.Prelude.{[], ◌∷◌, ◌≡◌};
 ghost use Rattle.bench.specs.Bench.{BenchDone, told};
 ghost use Rattle.bench.specs.ByValue.{benched_told, station_benched, records_benched};
 
 use refusal::Refusal;
-use relay::{Link, Row, Station};
+use relay::{Link, Station};
 
 // A bench's answer: the letter and the value of the link that leaves the row, and whether the incoming
 // token was taken. C is told these three.
@@ -57,11 +57,13 @@ impl Records {
 pub fn station_bench(s: &mut Station, link: Link, stop: bool) -> Result<Answer, Refusal>
     ensures { BenchDone (s.old ∷ []) link stop (told result) (s.new ∷ []) }
 {
-    let out = steps::station_step(*s, link, stop);
-    if out.answer.is_ok() {
-        *s = out.after;
+    let station = *s;
+    if !steps::fits(station) {
+        return Err(Refusal::Misfit);
     }
-    out.answer
+    let taken = link.is_some() & !station.full();
+    *s = station.after(link, stop);
+    Ok(steps::reply(station.link(), stop, taken))
 }
 
 // Returns the letter and value of the leaving link and whether the incoming token was taken, given a
@@ -72,7 +74,7 @@ pub fn row_bench(row: &mut [Station], link: Link, stop: bool) -> Result<Answer, 
     ensures { BenchDone row.old link stop (told result) row.new }
 {
     let n = row.len();
-    if (n == 0) | ((Row::LENGTH as usize) < n) {
+    if (n == 0) | (Station::ROW < n) {
         return Err(Refusal::Row);
     }
     if !rows::all_fit(row) {

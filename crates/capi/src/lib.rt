@@ -209,11 +209,12 @@ pub fn channel_bench_station(
 ) -> u8
     ensures { BenchCall (record_in station.old ∷ []) station.old valid value stop result letter.new shown.new taken.new station.new }
 {
+    let mut record = decode::record_in(station);
     let link = valid.then_some(value);
-    let benched = bench::steps::station_step(decode::record_in(station), link, stop);
-    let number = tell(benched.answer, letter, shown, taken);
-    if benched.answer.is_ok() {
-        let _ = encode::put_records(&[benched.after], station);
+    let answer = bench::station_bench(&mut record, link, stop);
+    let number = tell(answer, letter, shown, taken);
+    if answer.is_ok() {
+        let _ = encode::put_records(&[record], station);
     }
     number
 }

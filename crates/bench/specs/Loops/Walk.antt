@@ -1,7 +1,7 @@
 -- What the walk over a lent row leaves of it on its way.
 use Rattle.std.specs.Prelude.{List, ◌++◌, ℕ, get_or, take, drop}
 use Rattle.relay.specs.declared.Station.{Station}
-use Rattle.relay.specs.RowCycle.{no_station}
+use Rattle.relay.specs.Station.{no_station}
 
 -- the record at place i of a list of records
 abbrev pub record_at : List Station → ℕ → Station

@@ -13,17 +13,15 @@ use Rattle.laws.specs.Laws.Below.{all_at}
 use Rattle.laws.specs.Laws.Cases.{true_or_false, lt-or-ge, or_left, or_right}
 use Rattle.laws.specs.Lists.{padded}
 use Rattle.laws.specs.Table.{table}
-use Rattle.relay.specs.Station.{station_of}
+use Rattle.relay.specs.Station.{station_of, no_station}
 use Rattle.laws.specs.Laws.Table.{length-table, table_at, padded_long}
 use Rattle.relay.specs.declared.Station.{Station}
-use Rattle.relay.specs.RowCycle.{no_station}
 use Rattle.relay.specs.Link.{Link}
 use Rattle.std.specs.Bool.{then_some}
 use Rattle.bench.specs.declared.Answer.{Answer}
 use Rattle.refusal.specs.declared.Refusal.{Refusal}
 use Rattle.bench.specs.Bench.{Told, told, fits, bench_number, refusal, reply, bench_answer, bench_after, BenchDone}
-use Rattle.bench.proofs.BenchLaws.{refused_number, bench_long, length_bench, station-done}
-use Rattle.bench.specs.ByValue.{BenchedTold, station_benched}
+use Rattle.bench.proofs.BenchLaws.{refused_number, bench_long, length_bench}
 use Rattle.bench.proofs.Kept.{accepted_long, accepted-fits}
 use Rattle.layout.specs.Bytes.{station_bytes, no_record, record_in, row_record, record_count, row_in}
 use Rattle.layout.specs.Laws.Bytes.{all_stored, flat_long, station_long}
@@ -73,22 +71,17 @@ records-left records {bytes} w e =
 
 -- ---- a station
 module _
-    (bytes : List ℕ) (valid : Bool) (value : ℤ) (stop : Bool) {b : BenchedTold Station} (d : b ≡ station_benched (record_in bytes) (then_some valid value) stop) where
+    (bytes : List ℕ) (valid : Bool) (value : ℤ) (stop : Bool) {answer : Told} {after : Station}
+    (d : BenchDone (record_in bytes ∷ []) (then_some valid value) stop answer (after ∷ [])) where
   abbrev row : List Station
   row = record_in bytes ∷ []
 
-  answered : b.answer ≡ bench_answer row (then_some valid value) stop
-  answered = ap (λ (x : BenchedTold Station). x.answer) d ∙ (station-done (record_in bytes) (then_some valid value) stop).answered
-
-  after : b.after ∷ [] ≡ bench_after row (then_some valid value) stop
-  after = ap (λ (x : BenchedTold Station). x.after ∷ []) d ∙ (station-done (record_in bytes) (then_some valid value) stop).left
-
-  record_sized : b.answer.number ≡ 0 → length bytes ≡ 9
+  record_sized : answer.number ≡ 0 → length bytes ≡ 9
   unfolding record_in
   record_sized z = at (ℕ_discrete (length bytes) 9)
     where
       number : bench_number row ≡ 0
-      number = sym (answer-number row (then_some valid value) stop) ∙ sym (ap (λ (x : Told). x.number) answered) ∙ z
+      number = sym (answer-number row (then_some valid value) stop) ∙ sym (ap (λ (x : Told). x.number) d.answered) ∙ z
 
       at : Dec (length bytes ≡ 9) → length bytes ≡ 9
       at (yes e) = e
@@ -97,14 +90,14 @@ module _
           absurd (true≢false (sym (rw (ne_eqb (length bytes) 9 n) at f) ∙ no_record-fits))
 
   pub station-called :
-      {written : Result ℕ Refusal} {left : List ℕ} → b.answer.number ≡ 0 → WriteDone (flat_map station_bytes (b.after ∷ [])) bytes written left
-      → BenchCall row bytes valid value stop b.answer.number b.answer.letter b.answer.value b.answer.taken left
-  station-called z w = record { answered = answered; changed = records-left (b.after ∷ []) w (record_sized z) ∙ rw (z, ← after) }
+      {written : Result ℕ Refusal} {left : List ℕ} → answer.number ≡ 0 → WriteDone (flat_map station_bytes (after ∷ [])) bytes written left
+      → BenchCall row bytes valid value stop answer.number answer.letter answer.value answer.taken left
+  station-called z w = record { answered = d.answered; changed = records-left (after ∷ []) w (record_sized z) ∙ rw (z, ← d.left) }
 
   pub station_refused :
-      (b.answer.number ≡ 0 → ⊥) → BenchCall row bytes valid value stop b.answer.number b.answer.letter b.answer.value
-      b.answer.taken bytes
-  station_refused n = record { answered = answered; changed = rw (ne_eqb b.answer.number 0 n) }
+      (answer.number ≡ 0 → ⊥) → BenchCall row bytes valid value stop answer.number answer.letter answer.value
+      answer.taken bytes
+  station_refused n = record { answered = d.answered; changed = rw (ne_eqb answer.number 0 n) }
 
 -- ---- a row
 module _ (bytes : List ℕ) where
