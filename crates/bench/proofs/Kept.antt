@@ -18,11 +18,10 @@ use Rattle.laws.specs.Laws.Tests.{le_iff}
 use Rattle.relay.specs.declared.Station.{Station}
 use Rattle.relay.specs.Link.{Link, token, passing}
 use Rattle.relay.specs.Laws.Link.{letter-passing, token_few}
-use Rattle.relay.specs.Station.{held, station_of, clear}
+use Rattle.relay.specs.Station.{held, station_of, clear, no_station}
 use Rattle.relay.specs.Laws.Station.{held_of}
 use Rattle.relay.specs.Row.{stopped, leaving, row_after, contents}
 use Rattle.relay.specs.Laws.Row.{row_fifo, row_few, link_few, length-after, leaving-at}
-use Rattle.relay.specs.RowCycle.{no_station}
 use Rattle.bench.specs.Bench.{fits, bench_number, reply, bench_answer, bench_after}
 use Rattle.bench.proofs.BenchLaws.{length_bench}
 

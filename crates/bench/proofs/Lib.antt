@@ -1,4 +1,4 @@
 -- Laws of the benches.
 pub mod BenchLaws
-pub mod CopyLaws
+pub mod WalkLaws
 pub mod Kept

@@ -8,9 +8,8 @@ use Rattle.refusal.specs.declared.Refusal.{Refusal}
 use Rattle.refusal.specs.Number.{number}
 use Rattle.relay.specs.declared.Station.{Station}
 use Rattle.relay.specs.Link.{Link, token, link_of, passing, reading}
-use Rattle.relay.specs.Station.{held, station_of, clear}
+use Rattle.relay.specs.Station.{held, station_of, clear, no_station}
 use Rattle.relay.specs.Row.{stopped, leaving, row_after}
-use Rattle.relay.specs.RowCycle.{no_station}
 use Rattle.bench.specs.declared.Answer.{Answer}
 
 -- "On the benches 21 means a count over 2 or a nonzero unused token": a record with neither fits

@@ -1,13 +1,11 @@
 -- The benches by value: the records are handed in, and come back beside the answer.
-use Rattle.std.specs.Prelude.{Bool, List, [], ◌∷◌, ◌++◌, ℕ, ltb, get_or, take, drop}
-use Rattle.laws.specs.Choice.{◌if◌else◌}
+use Rattle.std.specs.Prelude.{Bool, List, [], ◌∷◌, ◌++◌, ℕ, get_or, take, drop}
 use Rattle.relay.specs.declared.Station.{Station}
-use Rattle.relay.specs.declared.Row.{Row}
 use Rattle.relay.specs.Link.{Link}
-use Rattle.relay.specs.RowCycle.{no_station}
+use Rattle.relay.specs.Station.{no_station}
 use Rattle.bench.specs.declared.Records.{Records}
 use Rattle.bench.specs.declared.Benched.{Benched}
-use Rattle.bench.specs.Bench.{Told, told, refusal, bench_answer, bench_after}
+use Rattle.bench.specs.Bench.{Told, told, bench_answer, bench_after}
 
 -- what a bench by value returns: what was benched as it is afterwards, and what the answer tells
 pub record BenchedTold (A : Type 0) : Type 0 where
@@ -26,15 +24,6 @@ station_benched s link stop =
 -- a list of records after a bench of the first n as a row: the others stay
 abbrev pub first_after : List Station → ℕ → Link → Bool → List Station
 first_after records n link stop = bench_after (take n records) link stop ++ drop n records
-
--- the first n of a row's eight records benched by value: 15 where n is over 8
-unfoldable pub row_benched : Row → ℕ → Link → Bool → BenchedTold Row
-row_benched row n link stop =
-    record { after = row; answer = refusal 15 } if ltb 8 n else
-    record {
-      after = record { stations = first_after row.stations n link stop };
-      answer = bench_answer (take n row.stations) link stop;
-    }
 
 -- the first n of nine records benched by value, one more than a row may have: all nine where n is more
 unfoldable pub records_benched : Records → ℕ → Link → Bool → BenchedTold Records

@@ -1,2 +1,2 @@
 -- What only the contracts of inner functions and their loops say.
-pub mod Copy
+pub mod Walk

@@ -1,28 +1,27 @@
 // Benches for relay stations on their own: one station, or a row of up to eight, is lent and changed in
 // place by one cycle. Link and stop are two parameters throughout, as C lends them: a struct of them
 // would mean two things, since a station's stop is on the link that leaves it, a queue's on the one that
-// arrives. One station and a row are apart: a row has a length, and is refused for it, and its copy has
-// eight places.
+// arrives. One station and a row are apart: a row has a length, and is refused for it.
 //
-// `station_bench` copies the station out, steps it by value (`station_step`), and stores it back if it
-// was accepted. `row_bench` copies the records to an array, hands them as a `relay::Row` to
-// `row_step`, which asks for 15 and 21 and then for `Row::cycle`, and copies them back if it was
-// accepted. A row that is too long is refused before it is copied. The library has its records as
-// bytes, lends none, and calls the two steps.
+// `station_bench` takes the station out, works it by value, by `Station::after`, and stores it back.
+// `row_bench` walks the row in place, from the last record to the first (`rows::walk`), and works each
+// record in the same way. Nothing is stored before 15 and 21 are asked. The library has its records as
+// bytes, and lends those that it read.
 //
 // Both benches hold a reference to a struct or to a slice of structs, and the trials lend one. What a
-// bench makes of its records their proofs know by laws only (`station-done`, `station_stays`,
-// `bench_copied`, `copied_stays`), so another rule of a bench changes none of them.
+// bench makes of its records their proofs know by laws only (`row_none`, `row_unfit`, `row_walked`), so
+// another rule of a bench changes none of them.
 #![tactic(auto)]
 
-pub mod steps;
+mod rows;
+mod steps;
 
 ghost use Rattle.std.specs.Prelude.{[], ◌∷◌, ◌≡◌};
 ghost use Rattle.bench.specs.Bench.{BenchDone, told};
 ghost use Rattle.bench.specs.ByValue.{benched_told, station_benched, records_benched};
 
 use refusal::Refusal;
-use relay::{Link, Row, Station};
+use relay::{Link, Station};
 
 // A bench's answer: the letter and the value of the link that leaves the row, and whether the incoming
 // token was taken. C is told these three.
@@ -58,34 +57,33 @@ impl Records {
 pub fn station_bench(s: &mut Station, link: Link, stop: bool) -> Result<Answer, Refusal>
     ensures { BenchDone (s.old ∷ []) link stop (told result) (s.new ∷ []) }
 {
-    let out = steps::station_step(*s, link, stop);
-    if out.answer.is_ok() {
-        *s = out.after;
+    let station = *s;
+    if !steps::fits(station) {
+        return Err(Refusal::Misfit);
     }
-    out.answer
+    let taken = link.is_some() & !station.full();
+    *s = station.after(link, stop);
+    Ok(steps::reply(station.link(), stop, taken))
 }
 
 // Returns the letter and value of the leaving link and whether the incoming token was taken, given a
 // lent row whose first record is nearest to the incoming link, that link and the stop below, and leaves
 // the row as it is after one cycle. Refused by 15 if it has no records or over 8, then by 21 if a record
 // has a count over 2 or a nonzero unused token: then the row stays as it was.
-//
-// The row is copied out, worked by value, and stored back only if it was accepted. A row that is too
-// long is refused before it is copied: its number is 15 whatever it holds.
 pub fn row_bench(row: &mut [Station], link: Link, stop: bool) -> Result<Answer, Refusal>
     ensures { BenchDone row.old link stop (told result) row.new }
 {
     let n = row.len();
-    if (Row::LENGTH as usize) < n {
+    if (n == 0) | (Station::ROW < n) {
         return Err(Refusal::Row);
     }
-    let mut copy = steps::empty_row().stations;
-    copy[..n].copy_from_slice(row);
-    let out = steps::row_step(Row { stations: copy }, n, link, stop);
-    if out.answer.is_ok() {
-        row.copy_from_slice(&out.after.stations[..n]);
+    if !rows::all_fit(row) {
+        return Err(Refusal::Misfit);
     }
-    out.answer
+    let taken = link.is_some() & !row[0].full();
+    let leaving = rows::link_at(row, link, n);
+    rows::walk(row, link, stop);
+    Ok(steps::reply(leaving, stop, taken))
 }
 
 // Returns a station after one cycle and the answer of `station_bench`, given the station by value, the

@@ -217,11 +217,12 @@ pub fn channel_bench_station(
 ) -> u8
     ensures { BenchCall (record_in station.old ∷ []) station.old valid value stop result letter.new shown.new taken.new station.new }
 {
+    let mut record = decode::record_in(station);
     let link = valid.then_some(value);
-    let benched = bench::steps::station_step(decode::record_in(station), link, stop);
-    let number = tell(benched.answer, letter, shown, taken);
-    if benched.answer.is_ok() {
-        let _ = encode::put_records(&[benched.after], station);
+    let answer = bench::station_bench(&mut record, link, stop);
+    let number = tell(answer, letter, shown, taken);
+    if answer.is_ok() {
+        let _ = encode::put_records(&[record], station);
     }
     number
 }
@@ -242,12 +243,13 @@ pub fn channel_bench_row(
 ) -> u8
     ensures { BenchCall (row_in row.old) row.old valid value stop result letter.new shown.new taken.new row.new }
 {
-    let count = decode::record_count(row);
+    let mut records = decode::row_in(row);
+    let count = decode::record_count(row).min(records.len());
     let link = valid.then_some(value);
-    let benched = bench::steps::row_step(decode::row_in(row), count, link, stop);
-    let number = tell(benched.answer, letter, shown, taken);
-    if benched.answer.is_ok() {
-        let _ = encode::put_records(&benched.after.stations[..count], row);
+    let answer = bench::row_bench(&mut records[..count], link, stop);
+    let number = tell(answer, letter, shown, taken);
+    if answer.is_ok() {
+        let _ = encode::put_records(&records[..count], row);
     }
     number
 }

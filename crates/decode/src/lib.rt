@@ -5,13 +5,15 @@
 // place.
 #![tactic(auto)]
 
-ghost use Rattle.std.specs.Prelude.{◌≡◌, ◌+◌, ◌*◌, ◌≤◌, length, get_or};
+ghost use Rattle.std.specs.Prelude.{[], ◌≡◌, ◌+◌, ◌*◌, ◌≤◌, length, get_or, min};
+ghost use Rattle.laws.specs.Lists.{padded};
 ghost use Rattle.laws.specs.Table.{table};
 ghost use Rattle.image.specs.Image.{four_bytes};
+ghost use Rattle.relay.specs.Station.{station_of};
 ghost use Rattle.layout.specs.Bytes.{token_in, node_in, station_in, queue_in, no_state, state_in, no_record, record_in, row_record, record_count};
 
 use layout::{RECORD, STATE};
-use relay::{Row, Station};
+use relay::Station;
 use shell::Queue;
 use state::{Node, State};
 use std::array;
@@ -151,11 +153,14 @@ pub fn record_count(bytes: &[u8]) -> usize
     (bytes.len() + 8) / RECORD
 }
 
-// Returns the first eight records of the row that bytes are read as, whether or not it has so many.
-pub fn row_in(bytes: &[u8]) -> Row
-    ensures { result.stations ≡ table (row_record bytes.now) 8 }
+// Returns nine records, one more than a row may have: the first are those of the row that bytes are read
+// as, up to eight, and the others are empty. Whatever is read of a longer row, it is refused.
+pub fn row_in(bytes: &[u8]) -> [Station; 9]
+    ensures { result ≡ padded 9 (station_of []) (table (row_record bytes.now) (min (record_count bytes.now) 8)) }
 {
-    Row {
-        stations: array::from_fn(|i| row_record(bytes, i)),
+    let mut records = [Station::empty(); 9];
+    for i in 0..record_count(bytes).min(8) {
+        records[i] = row_record(bytes, i);
     }
+    records
 }

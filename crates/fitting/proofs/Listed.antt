@@ -12,7 +12,7 @@ use Rattle.std.proofs.lemmas.List.{get_or-drop, get_or-take, length-take-le}
 use Rattle.laws.specs.Laws.Below.{all_from, all_same, sum_same}
 use Rattle.laws.specs.Laws.Cases.{lt-or-ge}
 use Rattle.relay.specs.declared.Station.{Station}
-use Rattle.relay.specs.RowCycle.{no_station}
+use Rattle.relay.specs.Station.{no_station}
 use Rattle.fitting.specs.Loops.Passes.{counted}
 
 module _ {A : Type 0} (test : A → Bool) (d : A) where

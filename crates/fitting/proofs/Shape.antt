@@ -11,7 +11,7 @@ use denote.Shadow.{shadow}
 use denote.Struct.Declared.{row}
 use denote.RattleType.{RattleType}
 use Rattle.relay.specs.declared.Station.{Station}
-use Rattle.relay.specs.RowCycle.{no_station}
+use Rattle.relay.specs.Station.{no_station}
 use Rattle.relay.specs.contracts.Station as station
 use Rattle.shell.specs.declared.Queue.{Queue}
 use Rattle.shell.specs.contracts.Queue as queue

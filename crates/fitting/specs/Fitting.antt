@@ -2,7 +2,7 @@
 -- `fits` exactly if it has them.
 use Rattle.std.specs.Prelude.{List, [], ◌≡◌, ℕ, suc, ◌+◌, ◌<◌, ◌≤◌, length, get_or}
 use Rattle.image.specs.Image.{nodes, channels, from, to, depth}
-use Rattle.relay.specs.RowCycle.{no_station}
+use Rattle.relay.specs.Station.{no_station}
 use Rattle.shell.specs.Channel.{tokens}
 use Rattle.state.specs.declared.State.{State}
 use Rattle.state.specs.State.{no_queue, node_at, firings_at, channel_in, state_of}

@@ -6,7 +6,7 @@ ghost use Rattle.image.specs.Image.{channels};
 ghost use Rattle.fitting.specs.Loops.Passes.{counted, empty_node, empty_station, empty_queue, nodes_fit, channel_fits, channels_fit, contents_clear, channels_clear};
 
 use netlist::Netlist;
-use relay::{Row, Station};
+use relay::Station;
 use shell::Queue;
 use state::{Node, State};
 
@@ -116,7 +116,7 @@ fn contents_clear(netlist: Netlist, state: &State, c: u8) -> bool
     let used = state.stations[start..end]
         .iter()
         .all(|station| station.clear());
-    let unused = state.stations[end..start + Row::LENGTH as usize]
+    let unused = state.stations[end..start + Station::ROW]
         .iter()
         .all(|station| empty_station(*station));
     (used & unused) & clear_queue(state.queues[usize::from(c)])

@@ -15,7 +15,7 @@ use Rattle.laws.specs.Table.{table}
 use Rattle.laws.specs.Laws.Table.{length-table, table_at, table_same, table_own}
 use Rattle.image.specs.Image.{four_bytes}
 use Rattle.relay.specs.declared.Station.{Station}
-use Rattle.relay.specs.RowCycle.{no_station}
+use Rattle.relay.specs.Station.{no_station}
 use Rattle.shell.specs.declared.Queue.{Queue}
 use Rattle.state.specs.declared.Node.{Node}
 use Rattle.state.specs.declared.State.{State}

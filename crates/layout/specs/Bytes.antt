@@ -7,7 +7,7 @@ use Rattle.laws.specs.Signed.{signed}
 use Rattle.laws.specs.Table.{table}
 use Rattle.image.specs.Image.{four_bytes}
 use Rattle.relay.specs.declared.Station.{Station}
-use Rattle.relay.specs.RowCycle.{no_station}
+use Rattle.relay.specs.Station.{no_station}
 use Rattle.shell.specs.declared.Queue.{Queue}
 use Rattle.state.specs.declared.Node.{Node}
 use Rattle.state.specs.declared.State.{State}

@@ -1,7 +1,7 @@
 -- What the declared type says of a state beyond its shape: the range of its numbers.
 use Rattle.std.specs.Prelude.{ℕ, ◌^◌, ◌<◌, pos, get_or}
 use Rattle.std.specs.Int.Signed.{mag}
-use Rattle.relay.specs.RowCycle.{no_station}
+use Rattle.relay.specs.Station.{no_station}
 use Rattle.state.specs.declared.State.{State}
 use Rattle.state.specs.State.{value_at, firings_at, queue_at}
 use Rattle.fitting.specs.Fitting.{Shaped}

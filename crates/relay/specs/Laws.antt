@@ -2,4 +2,3 @@
 pub mod Link
 pub mod Station
 pub mod Row
-pub mod RowCycle

@@ -2,5 +2,4 @@
 pub mod Link
 pub mod Station
 pub mod Row
-pub mod RowCycle
 pub mod Laws

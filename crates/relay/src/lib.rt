@@ -1,4 +1,5 @@
-// Relay stations, by value: a link, one station in a cycle, and a row of up to eight.
+// Relay stations, by value: a link, and one station in a cycle. What a row of them does is defined here
+// too; the engine and the row bench walk their rows themselves, each station by `Station::after`.
 //
 // In the definitions a station is the list of the tokens that it holds, oldest first, and a link the
 // list of the token that it shows: one, or none. So what passes on a link is `passing link stop`, with
@@ -9,17 +10,14 @@
 // place 0. Any record may be handed in: a count over two is read as two, and tokens that are not held
 // are not looked at.
 //
-// `Row::cycle` works each station from the row as it was (`station_after` between `link_at` and
-// `stop_at`), so its loop's invariant is one equation. The engine walks its stations the same way,
-// with the same laws by index (`after-at`, `leaving-at`, `stopped_inside`, `stopped_end`).
+// Both walks work each station from the row as it was, with the same laws by index (`after-at`,
+// `leaving-at`, `stopped_inside`, `stopped_end`).
 #![tactic(auto)]
 
-ghost use Rattle.std.specs.Prelude.{[], ◌∷◌, ◌≡◌, ◌≤◌, ◌<◌, min, drop};
+ghost use Rattle.std.specs.Prelude.{[], ◌∷◌, ◌≡◌};
 ghost use Rattle.laws.specs.Lists.{holds_two};
 ghost use Rattle.relay.specs.Link.{token, link_of, reading};
 ghost use Rattle.relay.specs.Station.{held, station_of, clear, place_after};
-ghost use Rattle.relay.specs.Row.{stopped, link_at};
-ghost use Rattle.relay.specs.RowCycle.{places, row_cycle, station_after};
 
 // What a link shows: a token, or none while it is void.
 pub type Link = Option<i32>;
@@ -38,22 +36,6 @@ pub struct Reading {
 pub struct Station {
     pub tokens: [i32; 2],
     pub count: u8,
-}
-
-// A row of stations, the first nearest to the from node. Its length stands beside it and not in it: a field
-// that is eight at most would ask of callers what `cycle` does not ask.
-#[derive(Clone, Copy)]
-pub struct Row {
-    pub stations: [Station; 8],
-}
-
-// What a cycle makes of a row: the row after the cycle, what the leaving link showed, and whether the
-// token on the entering link was taken.
-#[derive(Clone, Copy)]
-pub struct RowCycle {
-    pub row: Row,
-    pub leaving: Link,
-    pub taken: bool,
 }
 
 impl Reading {
@@ -78,6 +60,9 @@ impl Reading {
 impl Station {
     // How many tokens a station has places for.
     pub const DEPTH: u8 = 2;
+
+    // How many stations a row has at most.
+    pub const ROW: usize = 8;
 
     // Returns a station that holds no token. `default()` would say less.
     #[tactic(auto, unfolding(crate::specs::Station::station_of, laws::specs::Lists::padded))]
@@ -163,71 +148,6 @@ impl Station {
         match link {
             Some(token) => Station::one(token),
             None => Station::empty(),
-        }
-    }
-}
-
-// Returns a row's length as an index bound: eight at most.
-fn within(length: u8) -> usize
-    ensures { (result ≡ min length 8) × (result ≤ 8) }
-{
-    length.min(Row::LENGTH) as usize
-}
-
-impl Row {
-    // How many stations a row has places for.
-    pub const LENGTH: u8 = 8;
-
-    // Returns what link j shows: link 0 as given, link j above 0 by the station before it.
-    #[tactic(auto, using(crate::specs::Laws::Link::link_own, crate::specs::Laws::RowCycle::link_above), unfolding(crate::specs::Row::link_at))]
-    fn link_at(&self, link: Link, j: usize) -> Link
-        requires { j ≤ 8 }
-        ensures { result ≡ link_of (link_at (token link) (places self.now 8) j) }
-    {
-        if j == 0 {
-            return link;
-        }
-        self.stations[j - 1].link()
-    }
-
-    // Returns whether link j of the first n stations is stopped: by the station after it, or as given.
-    fn stop_at(&self, n: usize, stop: bool, j: usize) -> bool
-        requires { n ≤ 8 }
-        ensures { result ≡ stopped (drop j (places self.now n)) stop }
-    {
-        if j < n {
-            return self.stations[j].full();
-        }
-        stop
-    }
-
-    // Returns station j of the first n, counted from 0, after a cycle.
-    fn station_after(&self, n: usize, link: Link, stop: bool, j: usize) -> Station
-        requires { (n ≤ 8) × (j < n) }
-        ensures { result ≡ station_after self.now n link stop j }
-    {
-        let above = self.link_at(link, j);
-        let below = self.stop_at(n, stop, j + 1);
-        self.stations[j].after(above, below)
-    }
-
-    // Returns what a cycle makes of the first `length` stations, of all if it is over eight, given the
-    // link that enters the row and the stop on the one that leaves it. Every station is worked from the
-    // row as it was, by its place: its link and its stop are its neighbours'.
-    pub fn cycle(self, length: u8, link: Link, stop: bool) -> RowCycle
-        ensures { result ≡ row_cycle self length link stop }
-    {
-        let n = within(length);
-        let mut row = self;
-        for j in 0..n {
-            row.stations[j] = self.station_after(n, link, stop, j);
-        }
-        let leaving = self.link_at(link, n);
-        let held_up = self.stop_at(n, stop, 0);
-        RowCycle {
-            row,
-            leaving,
-            taken: link.is_some() & !held_up,
         }
     }
 }

@@ -5,8 +5,7 @@ use Rattle.laws.specs.Lists.{holds, one_if, padded}
 use Rattle.laws.specs.Table.{table}
 use Rattle.image.specs.Image.{nodes, channels, from, stations}
 use Rattle.relay.specs.declared.Station.{Station}
-use Rattle.relay.specs.Station.{held, station_of}
-use Rattle.relay.specs.RowCycle.{no_station}
+use Rattle.relay.specs.Station.{held, station_of, no_station}
 use Rattle.shell.specs.declared.Queue.{Queue}
 use Rattle.shell.specs.Queue.{waiting, queue_of}
 use Rattle.shell.specs.Channel.{Channel}

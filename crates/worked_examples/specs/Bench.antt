@@ -10,7 +10,7 @@ use Rattle.relay.specs.Station.{held, station_of, place_after}
 use Rattle.relay.specs.Row.{stopped, leaving, row_after}
 use Rattle.bench.specs.declared.Records.{Records}
 use Rattle.bench.specs.Bench.{Told, fits, bench_number, refusal, reply, bench_answer, bench_after}
-use Rattle.bench.specs.ByValue.{station_benched, row_benched, records_benched}
+use Rattle.bench.specs.ByValue.{station_benched, records_benched}
 
 -- the answers T, R, I and S of a bench that took no token
 abbrev t : ℕ → Told
@@ -130,12 +130,11 @@ unfolding all_below zero_from fits bench_number refusal bench_answer bench_after
 refusals = (refl, refl, refl, refl, refl, refl, refl, refl, refl, refl, refl, refl)
 
 -- ---- by value
--- a station; more records than a row by value has; two of nine records, of which the others stay though one does not fit; more than nine
+-- a station; two of nine records, of which the others stay though one does not fit; more than nine
 by_value :
     let one : Station = station (pos 1) (pos 0) 1 in
     let nine : Records = record { stations = one ∷ one ∷ station (pos 1) (pos 2) 7 ∷ replicate 6 one } in
     (station_benched one (Some (pos 2)) true ≡ record { after = station (pos 1) (pos 2) 2; answer = took (r 1) }) ×
-    ((row_benched (record { stations = replicate 8 one }) 9 (Some (pos 2)) true).answer ≡ refusal 15) ×
     (records_benched nine 2 (Some (pos 2)) false ≡
     record { after = record { stations = station (pos 2) (pos 0) 1 ∷ one ∷ station (pos 1) (pos 2) 7 ∷ replicate 6 one }; answer = took (t 1) }) ×
     (records_benched nine 3 (Some (pos 2)) false ≡ record { after = nine; answer = refusal 21 }) ×
@@ -143,5 +142,5 @@ by_value :
 unfolding
     letter reading held station_of place_after stopped leaving row_after padded all_below zero_from fits bench_number refusal reply bench_answer
     bench_after
-    station_benched row_benched records_benched
-by_value = (refl, refl, refl, refl, refl)
+    station_benched records_benched
+by_value = (refl, refl, refl, refl)

@@ -1,15 +1,13 @@
 -- Stations, computed: a table of readings, a station through eleven cycles, a row of two stations, and records.
 use Prim.Native.Char.{code}
-use Rattle.std.specs.Prelude.{Some, Bool, true, false, List, [], ◌∷◌, ◌++◌, ◌≡◌, refl, ℕ, pred, eqb, ltb, ℤ, pos, negsuc, replicate}
+use Rattle.std.specs.Prelude.{Bool, true, false, List, [], ◌∷◌, ◌++◌, ◌≡◌, refl, ℕ, pred, eqb, ltb, ℤ, pos, negsuc, replicate}
 use Rattle.std.specs.Bool.{then_some}
 use Rattle.laws.specs.Below.{all_below}
 use Rattle.laws.specs.Lists.{one_if, padded, zero_from}
 use Rattle.relay.specs.declared.Reading.{Reading}
-use Rattle.relay.specs.declared.Row.{Row}
-use Rattle.relay.specs.Link.{Link, link_of, letter, reading}
+use Rattle.relay.specs.Link.{link_of, letter, reading}
 use Rattle.relay.specs.Station.{held, station_of, clear, place_after}
 use Rattle.relay.specs.Row.{stopped, leaving, row_after}
-use Rattle.relay.specs.RowCycle.{places, row_cycle}
 
 -- the letters T and R with their value, T also with one below 0; I and S
 abbrev pub t : ℕ → Reading
@@ -96,30 +94,12 @@ clears :
 unfolding zero_from all_below
 clears = (refl, refl, refl, refl)
 
--- a row of eight stations with a token each. A row of none of them is its link; the cycle of one leaves the others; a length over eight is eight
-abbrev eight : Row
-eight = record { stations = replicate 8 (station_of (pos 1 ∷ [])) }
-
-abbrev offer : Link
-offer = Some (pos 2)
-
-lengths :
-    (row_cycle eight 0 offer true ≡ record { row = eight; leaving = offer; taken = false }) ×
-    (row_cycle eight 1 offer false ≡
-    record {
-      row = record { stations = station_of (pos 2 ∷ []) ∷ replicate 7 (station_of (pos 1 ∷ [])) };
-      leaving = Some (pos 1);
-      taken = true;
-    }) ×
-    (row_cycle eight 8 offer true ≡
-    record {
-      row =
-          record {
-            stations = station_of (pos 2 ∷ []) ∷ replicate 6 (station_of (pos 1 ∷ [])) ++ (station_of (pos 1 ∷ pos 1 ∷ []) ∷ []);
-          };
-      leaving = Some (pos 1);
-      taken = true;
-    }) ×
-    (row_cycle eight 9 offer true ≡ row_cycle eight 8 offer true)
-unfolding held station_of place_after stopped leaving row_after places row_cycle padded
-lengths = (refl, refl, refl, refl)
+-- a row of no stations is its link. Eight stations with a token each, stopped below: all pass theirs on but the last, which keeps it
+rows :
+    let offer : List ℤ = pos 2 ∷ [] in
+    let eight : List (List ℤ) = replicate 8 (pos 1 ∷ []) in
+    (leaving offer [] ≡ offer) × (stopped [] true ≡ true) × (row_after offer [] true ≡ []) ×
+    (leaving offer eight ≡ pos 1 ∷ []) × (stopped eight true ≡ false) ×
+    (row_after offer eight true ≡ offer ∷ (replicate 6 (pos 1 ∷ []) ++ ((pos 1 ∷ pos 1 ∷ []) ∷ [])))
+unfolding place_after stopped leaving row_after
+rows = (refl, refl, refl, refl, refl, refl)

@@ -1,28 +1,27 @@
 -- What each way out of the benches on bytes has done. Assumes nothing.
-use Rattle.std.specs.Prelude.{Bool, false, ◌≡◌, refl, ℕ, ◌+◌, ◌*◌, ◌-◌, ◌≤◌, ◌<◌, eqb, ltb, ℤ, length, get_or, take, drop, Result, Ok, Err}
+use Rattle.std.specs.Prelude.{Bool, false, ◌≡◌, refl, ℕ, ◌+◌, ◌*◌, ◌-◌, ◌≤◌, ◌<◌, eqb, ltb, ℤ, length, get_or, take, min, replicate, Result, Ok, Err}
 use Rattle.std.specs.Result.{is_ok}
 use Rattle.std.proofs.Math.Bool.{true}
-use Rattle.std.proofs.Common.{true≢false, ◌∙◌, arith, length-append, take_at}
+use Rattle.std.proofs.Common.{true≢false, ◌∙◌, arith, length-take, take_at}
 use mathlib.Core.List.{List, [], ◌∷◌, ◌++◌, flat_map}
 use Rattle.std.proofs.Math.Logic.{⊎_elim}
 use Rattle.std.proofs.Math.Path.{sym, ap}
 use Rattle.std.proofs.Math.Decide.{ℕ_discrete}
-use borrow.Author.Tests.{eqb-true, eqb-false, ne_eqb, leb-true, ltb-false, lt-ltb, le-ltb}
+use borrow.Author.Tests.{eqb-true, eqb-false, ne_eqb, leb-true, ltb-false}
 use Rattle.std.proofs.Math.Dec.{leb}
 use Rattle.laws.specs.Laws.Below.{all_at}
 use Rattle.laws.specs.Laws.Cases.{true_or_false, lt-or-ge, or_left, or_right}
+use Rattle.laws.specs.Lists.{padded}
 use Rattle.laws.specs.Table.{table}
-use Rattle.laws.specs.Laws.Table.{length-table, table_at, take-table}
-use Rattle.relay.specs.declared.Row.{Row}
+use Rattle.relay.specs.Station.{station_of, no_station}
+use Rattle.laws.specs.Laws.Table.{length-table, table_at, padded_long}
 use Rattle.relay.specs.declared.Station.{Station}
-use Rattle.relay.specs.RowCycle.{no_station}
 use Rattle.relay.specs.Link.{Link}
 use Rattle.std.specs.Bool.{then_some}
 use Rattle.bench.specs.declared.Answer.{Answer}
 use Rattle.refusal.specs.declared.Refusal.{Refusal}
-use Rattle.bench.specs.Bench.{Told, told, fits, bench_number, refusal, reply, bench_answer, bench_after}
-use Rattle.bench.proofs.BenchLaws.{refused_number, bench_long, length_bench, station-done}
-use Rattle.bench.specs.ByValue.{BenchedTold, station_benched, row_benched}
+use Rattle.bench.specs.Bench.{Told, told, fits, bench_number, refusal, reply, bench_answer, bench_after, BenchDone}
+use Rattle.bench.proofs.BenchLaws.{refused_number, bench_long, length_bench}
 use Rattle.bench.proofs.Kept.{accepted_long, accepted-fits}
 use Rattle.layout.specs.Bytes.{station_bytes, no_record, record_in, row_record, record_count, row_in}
 use Rattle.layout.specs.Laws.Bytes.{all_stored, flat_long, station_long}
@@ -72,22 +71,17 @@ records-left records {bytes} w e =
 
 -- ---- a station
 module _
-    (bytes : List ℕ) (valid : Bool) (value : ℤ) (stop : Bool) {b : BenchedTold Station} (d : b ≡ station_benched (record_in bytes) (then_some valid value) stop) where
+    (bytes : List ℕ) (valid : Bool) (value : ℤ) (stop : Bool) {answer : Told} {after : Station}
+    (d : BenchDone (record_in bytes ∷ []) (then_some valid value) stop answer (after ∷ [])) where
   abbrev row : List Station
   row = record_in bytes ∷ []
 
-  answered : b.answer ≡ bench_answer row (then_some valid value) stop
-  answered = ap (λ (x : BenchedTold Station). x.answer) d ∙ (station-done (record_in bytes) (then_some valid value) stop).answered
-
-  after : b.after ∷ [] ≡ bench_after row (then_some valid value) stop
-  after = ap (λ (x : BenchedTold Station). x.after ∷ []) d ∙ (station-done (record_in bytes) (then_some valid value) stop).left
-
-  record_sized : b.answer.number ≡ 0 → length bytes ≡ 9
+  record_sized : answer.number ≡ 0 → length bytes ≡ 9
   unfolding record_in
   record_sized z = at (ℕ_discrete (length bytes) 9)
     where
       number : bench_number row ≡ 0
-      number = sym (answer-number row (then_some valid value) stop) ∙ sym (ap (λ (x : Told). x.number) answered) ∙ z
+      number = sym (answer-number row (then_some valid value) stop) ∙ sym (ap (λ (x : Told). x.number) d.answered) ∙ z
 
       at : Dec (length bytes ≡ 9) → length bytes ≡ 9
       at (yes e) = e
@@ -96,14 +90,14 @@ module _
           absurd (true≢false (sym (rw (ne_eqb (length bytes) 9 n) at f) ∙ no_record-fits))
 
   pub station-called :
-      {written : Result ℕ Refusal} {left : List ℕ} → b.answer.number ≡ 0 → WriteDone (flat_map station_bytes (b.after ∷ [])) bytes written left
-      → BenchCall row bytes valid value stop b.answer.number b.answer.letter b.answer.value b.answer.taken left
-  station-called z w = record { answered = answered; changed = records-left (b.after ∷ []) w (record_sized z) ∙ rw (z, ← after) }
+      {written : Result ℕ Refusal} {left : List ℕ} → answer.number ≡ 0 → WriteDone (flat_map station_bytes (after ∷ [])) bytes written left
+      → BenchCall row bytes valid value stop answer.number answer.letter answer.value answer.taken left
+  station-called z w = record { answered = d.answered; changed = records-left (after ∷ []) w (record_sized z) ∙ rw (z, ← d.left) }
 
   pub station_refused :
-      (b.answer.number ≡ 0 → ⊥) → BenchCall row bytes valid value stop b.answer.number b.answer.letter b.answer.value
-      b.answer.taken bytes
-  station_refused n = record { answered = answered; changed = rw (ne_eqb b.answer.number 0 n) }
+      (answer.number ≡ 0 → ⊥) → BenchCall row bytes valid value stop answer.number answer.letter answer.value
+      answer.taken bytes
+  station_refused n = record { answered = d.answered; changed = rw (ne_eqb answer.number 0 n) }
 
 -- ---- a row
 module _ (bytes : List ℕ) where
@@ -136,56 +130,59 @@ module _ (bytes : List ℕ) where
     unfolding record_count
     row-whole = omega (arith, record_whole (record_count bytes - 1) (omega (arith, row_few.0)), row_few.0)
 
-module _
-    (bytes : List ℕ) (row : Row)
-    (r : row.stations ≡ table (row_record bytes) 8) (valid : Bool) (value : ℤ)
-    (stop : Bool)
-    {b : BenchedTold Row} (d : b ≡ row_benched row (record_count bytes) (then_some valid value) stop) where
   abbrev n : ℕ
   n = record_count bytes
 
-  first_few : n ≤ 8 → take n row.stations ≡ row_in bytes
-  unfolding row_in
-  first_few h = ap (take n) r ∙ take-table (row_record bytes) n 8 h
+  -- the records that are lent: those of the row, nine where it has more than eight
+  abbrev pub lent : List Station
+  lent = take (min n 9) (padded 9 (station_of []) (table (row_record bytes) (min n 8)))
 
-  row-answered : b.answer ≡ bench_answer (row_in bytes) (then_some valid value) stop
-  unfolding row_benched
-  row-answered =
-      ⊎_elim
-      (λ (h : 8 < n).
-      ap (λ (x : BenchedTold Row). x.answer) d ∙ rw (lt-ltb 8 n h) (bench_long (row_in bytes) (then_some valid value) stop (rw (length-row bytes) h)).answered)
-      (λ (h : n ≤ 8). ap (λ (x : BenchedTold Row). x.answer) d ∙ rw (le-ltb 8 n h, first_few h))
-      (lt-or-ge 8 n)
+  lent_few : n ≤ 8 → lent ≡ row_in bytes
+  unfolding row_in padded
+  lent_few h =
+      let a : min n 9 ≡ n = omega (arith, h) in
+      let b : min n 8 ≡ n = omega (arith, h) in
+      let t = table (row_record bytes) n in
+      rw (a, b) (take_at t (replicate (9 - length t) (station_of [])) n (length-table (row_record bytes) n))
 
-  module _ (z : b.answer.number ≡ 0) where
-    accepted-row : bench_number (row_in bytes) ≡ 0
-    accepted-row = sym (answer-number (row_in bytes) (then_some valid value) stop) ∙ sym (ap (λ (x : Told). x.number) row-answered) ∙ z
+  lent_many : 8 < n → 8 < length lent
+  lent_many h =
+      let a : min n 9 ≡ 9 = omega (arith, h) in
+      let b : min n 8 ≡ 8 = omega (arith, h) in
+      rw (a, b, length-take, padded_long (row_record bytes) 8 9 (station_of []) (omega arith)) (omega arith)
 
-    pub row_sized : n ≤ 8
-    row_sized = (row_few bytes accepted-row).1
+  module _
+      (valid : Bool) (value : ℤ) (stop : Bool) {answer : Told} {after : List Station} (d : BenchDone lent (then_some valid value) stop answer after)
+    where
+      row-answered : answer ≡ bench_answer (row_in bytes) (then_some valid value) stop
+      row-answered =
+          let link = then_some valid value in
+          ⊎_elim
+          (λ (h : 8 < n).
+          d.answered ∙ sym (bench_long lent link stop (lent_many h)).answered ∙ (bench_long (row_in bytes) link stop (rw length-row h)).answered)
+          (λ (h : n ≤ 8). d.answered ∙ ap (λ r. bench_answer r link stop) (lent_few h))
+          (lt-or-ge 8 n)
 
-    -- the first n records are the row after the bench
-    abbrev after-row : List Station
-    after-row = bench_after (row_in bytes) (then_some valid value) stop
+      module _ (z : answer.number ≡ 0) where
+        accepted-row : bench_number (row_in bytes) ≡ 0
+        accepted-row = sym (answer-number (row_in bytes) (then_some valid value) stop) ∙ sym (ap (λ (x : Told). x.number) row-answered) ∙ z
 
-    stations-after : b.after.stations ≡ after-row ++ drop n row.stations
-    unfolding row_benched
-    stations-after = ap (λ (x : BenchedTold Row). x.after.stations) d ∙ rw (le-ltb 8 n row_sized, first_few row_sized)
+        after-is : after ≡ bench_after (row_in bytes) (then_some valid value) stop
+        after-is = d.left ∙ ap (λ r. bench_after r (then_some valid value) stop) (lent_few (row_few accepted-row).1)
 
-    after_long : length after-row ≡ n
-    after_long = length_bench (row_in bytes) (then_some valid value) stop ∙ length-row bytes
+        after_long : length after ≡ n
+        after_long = ap length after-is ∙ length_bench (row_in bytes) (then_some valid value) stop ∙ length-row
 
-    records-after : take n b.after.stations ≡ after-row
-    records-after = rw stations-after (take_at after-row (drop n row.stations) n after_long)
+        -- of the nine records those that were lent are written
+        pub row-called :
+            (rest : List Station) {written : Result ℕ Refusal} {left : List ℕ}
+            → WriteDone (flat_map station_bytes (take (min n 9) (after ++ rest))) bytes written left
+            → BenchCall (row_in bytes) bytes valid value stop answer.number answer.letter answer.value answer.taken left
+        row-called rest w =
+            let few : min n 9 ≡ n = omega (arith, (row_few accepted-row).1) in
+            let l = records-left after (rw (few, take_at after rest n after_long) at w) (row-whole accepted-row ∙ ap (λ k. 9 * k) (sym after_long)) in
+            record { answered = row-answered; changed = l ∙ rw (z, ← after-is) }
 
-    pub row-called :
-        {written : Result ℕ Refusal} {left : List ℕ} → WriteDone (flat_map station_bytes (take n b.after.stations)) bytes written left
-        → BenchCall (row_in bytes) bytes valid value stop b.answer.number b.answer.letter b.answer.value b.answer.taken left
-    row-called w =
-        let l = records-left after-row (rw records-after at w) (row-whole bytes accepted-row ∙ ap (λ k. 9 * k) (sym after_long)) in
-        record { answered = row-answered; changed = l ∙ rw z }
-
-  pub row_refused :
-      (b.answer.number ≡ 0 → ⊥)
-      → BenchCall (row_in bytes) bytes valid value stop b.answer.number b.answer.letter b.answer.value b.answer.taken bytes
-  row_refused h = record { answered = row-answered; changed = rw (ne_eqb b.answer.number 0 h) }
+      pub row_refused :
+          (answer.number ≡ 0 → ⊥) → BenchCall (row_in bytes) bytes valid value stop answer.number answer.letter answer.value answer.taken bytes
+      row_refused h = record { answered = row-answered; changed = rw (ne_eqb answer.number 0 h) }

@@ -28,8 +28,7 @@ use Rattle.image.specs.Loops.Ports.{ports_below}
 use Rattle.std.specs.Int.{from_bool}
 use Rattle.std.specs.Option.{is_some, unwrap_or}
 use Rattle.relay.specs.Link.{Link, token}
-use Rattle.relay.specs.Station.{held}
-use Rattle.relay.specs.RowCycle.{no_station}
+use Rattle.relay.specs.Station.{held, no_station}
 use Rattle.shell.specs.Channel.{arriving}
 use Rattle.state.specs.State.{no_node, node_at, channel_in}
 use Rattle.state.specs.declared.State.{State}

@@ -28,9 +28,8 @@ use Rattle.pearl.specs.Next.{next_value}
 use Rattle.node.specs.Node.{port_value, next_of}
 use Rattle.relay.specs.Link.{Link, token, link_of, passing}
 use Rattle.relay.specs.Laws.Link.{token_if, token_of, passing_few}
-use Rattle.relay.specs.Station.{held, station_of, place_after}
+use Rattle.relay.specs.Station.{held, station_of, place_after, no_station}
 use Rattle.relay.specs.Row.{stopped, link_at}
-use Rattle.relay.specs.RowCycle.{no_station}
 use Rattle.relay.specs.Laws.Row.{after-at, leaving-at, stopped_inside, stopped_end}
 use Rattle.shell.specs.Queue.{waiting, queue_of, full, queue_after}
 use Rattle.shell.specs.Laws.Queue.{after_of}

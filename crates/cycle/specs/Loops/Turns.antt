@@ -23,8 +23,7 @@ use Rattle.image.specs.Readers.{wire_at}
 use Rattle.relay.specs.declared.Station.{Station}
 use Rattle.relay.specs.Link.{Link, token, link_of, passing, reading}
 use Rattle.relay.specs.Laws.Link.{reading-token}
-use Rattle.relay.specs.Station.{held, station_of, place_after}
-use Rattle.relay.specs.RowCycle.{no_station}
+use Rattle.relay.specs.Station.{held, station_of, place_after, no_station}
 use Rattle.pearl.specs.declared.Kind.{Kind}
 use Rattle.pearl.specs.declared.Kind.TheVariants.{Count}
 use Rattle.pearl.specs.Kind.{kind_byte}

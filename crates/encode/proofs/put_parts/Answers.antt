@@ -3,7 +3,7 @@ use mathlib.Core.Path.{◌≡◌}
 use native.Mathlib.Omega.{arith}
 use borrow.Author.Rules.{rules}
 use lib.ListN.{length}
-use Rattle.relay.specs.RowCycle.{no_station}
+use Rattle.relay.specs.Station.{no_station}
 use Rattle.state.specs.State.{no_node, no_queue}
 use Rattle.layout.specs.Bytes.{node_bytes, station_bytes, queue_bytes}
 use Rattle.layout.specs.Laws.Bytes.{number_long, node_long, station_long, queue_long, flat_long, end_number, end_all, each_own, end_pending, state-put}

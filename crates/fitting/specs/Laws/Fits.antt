@@ -16,9 +16,8 @@ use Rattle.laws.specs.Laws.Table.{padded_past, padded_own}
 use Rattle.image.specs.Image.{nodes, channels, from, to, stations, depth}
 use Rattle.verdict.specs.Accepted.{Accepted}
 use Rattle.relay.specs.declared.Station.{Station}
-use Rattle.relay.specs.Station.{held, station_of}
+use Rattle.relay.specs.Station.{held, station_of, no_station}
 use Rattle.relay.specs.Laws.Station.{held_count, station_own, station-stored}
-use Rattle.relay.specs.RowCycle.{no_station}
 use Rattle.relay.specs.Row.{contents}
 use Rattle.relay.specs.Laws.Row.{contents_count}
 use Rattle.shell.specs.declared.Queue.{Queue}

@@ -5,8 +5,7 @@ use Rattle.laws.specs.Lists.{zero_from}
 use Rattle.laws.specs.Signed.{is_zero}
 use Rattle.image.specs.Image.{channels, stations, depth}
 use Rattle.relay.specs.declared.Station.{Station}
-use Rattle.relay.specs.Station.{clear}
-use Rattle.relay.specs.RowCycle.{no_station}
+use Rattle.relay.specs.Station.{clear, no_station}
 use Rattle.shell.specs.declared.Queue.{Queue}
 use Rattle.state.specs.declared.Node.{Node}
 use Rattle.state.specs.declared.State.{State}

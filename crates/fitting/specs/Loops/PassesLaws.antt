@@ -13,8 +13,7 @@ use Rattle.laws.specs.Laws.Tests.{ge-iff, le_iff, eq_iff, and-iff, or-iff, test_
 use Rattle.image.specs.Image.{nodes, channels, stations, depth}
 use Rattle.verdict.specs.Accepted.{Accepted}
 use Rattle.relay.specs.declared.Station.{Station}
-use Rattle.relay.specs.Station.{clear}
-use Rattle.relay.specs.RowCycle.{no_station}
+use Rattle.relay.specs.Station.{clear, no_station}
 use Rattle.shell.specs.declared.Queue.{Queue}
 use Rattle.state.specs.declared.State.{State}
 use Rattle.state.specs.State.{value_at, firings_at, pending_at, station_at, queue_at}

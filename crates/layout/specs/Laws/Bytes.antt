@@ -13,7 +13,7 @@ use Rattle.writer.specs.Put.{Put}
 use Rattle.writer.specs.Laws.Items.{flat_own}
 use Rattle.writer.specs.Laws.Put.{put-after, put_long}
 use Rattle.relay.specs.declared.Station.{Station}
-use Rattle.relay.specs.RowCycle.{no_station}
+use Rattle.relay.specs.Station.{no_station}
 use Rattle.shell.specs.declared.Queue.{Queue}
 use Rattle.state.specs.declared.Node.{Node}
 use Rattle.state.specs.declared.State.{State}

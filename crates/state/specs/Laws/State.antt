@@ -12,9 +12,8 @@ use Rattle.laws.specs.Table.{table}
 use Rattle.laws.specs.Laws.Table.{length-table, table_at, table_same, table_own, padded-at}
 use Rattle.image.specs.Image.{nodes, channels, from, stations}
 use Rattle.relay.specs.declared.Station.{Station}
-use Rattle.relay.specs.Station.{held, station_of}
+use Rattle.relay.specs.Station.{held, station_of, no_station}
 use Rattle.relay.specs.Laws.Station.{held_of}
-use Rattle.relay.specs.RowCycle.{no_station}
 use Rattle.relay.specs.Laws.Row.{leaving-at, link_few}
 use Rattle.shell.specs.Queue.{queue_of}
 use Rattle.shell.specs.Laws.Queue.{waiting_of}

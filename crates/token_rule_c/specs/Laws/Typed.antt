@@ -14,8 +14,7 @@ use Rattle.image.specs.Image.{nodes, channels}
 use Rattle.verdict.specs.Accepted.{Accepted}
 use Rattle.relay.specs.Row.{contents}
 use Rattle.relay.specs.declared.Station.{Station}
-use Rattle.relay.specs.Station.{station_of}
-use Rattle.relay.specs.RowCycle.{no_station}
+use Rattle.relay.specs.Station.{station_of, no_station}
 use Rattle.shell.specs.declared.Queue.{Queue}
 use Rattle.shell.specs.Queue.{queue_of}
 use Rattle.shell.specs.Channel.{tokens}

@@ -7,7 +7,7 @@ use Rattle.image.specs.Image.{stations}
 use Rattle.verdict.specs.Laws.Accepted.{channels_few}
 use Rattle.image.specs.Readers.{wire_at}
 use Rattle.relay.specs.declared.Station.{Station}
-use Rattle.relay.specs.RowCycle.{no_station}
+use Rattle.relay.specs.Station.{no_station}
 use Rattle.state.specs.State.{node_at, pending_at, station_at, queue_at}
 use Rattle.fitting.specs.Fits.{stations_fit, balanced}
 use Rattle.laws.specs.Below.{sum_below}

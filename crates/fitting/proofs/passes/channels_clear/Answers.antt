@@ -5,7 +5,7 @@ use Rattle.std.proofs.lemmas.Iterator.{YieldsList-from_slice, YieldsList-from_ra
 use Rattle.std.proofs.lemmas.Iterator.Search.{all_from_yields_List}
 use Rattle.laws.specs.Laws.Below.{all_range}
 use Rattle.image.specs.Image.{channels}
-use Rattle.relay.specs.RowCycle.{no_station}
+use Rattle.relay.specs.Station.{no_station}
 use Rattle.state.specs.State.{no_queue, pending_at, queue_at}
 use Rattle.fitting.specs.Fits.{pending_clear}
 use Rattle.fitting.specs.Loops.Passes.{empty_station, empty_queue, contents_clear, place_clear, queue_empty, channels_clear}

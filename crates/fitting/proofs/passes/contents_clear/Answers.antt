@@ -5,8 +5,7 @@ use Rattle.std.proofs.lemmas.Iterator.Search.{all_from_yields_List}
 use Rattle.image.specs.Image.{stations}
 use Rattle.verdict.specs.Laws.Accepted.{channels_few}
 use Rattle.image.specs.Readers.{wire_at}
-use Rattle.relay.specs.Station.{clear}
-use Rattle.relay.specs.RowCycle.{no_station}
+use Rattle.relay.specs.Station.{clear, no_station}
 use Rattle.state.specs.State.{station_at, queue_at}
 use Rattle.fitting.specs.Loops.Passes.{empty_station, contents_clear}
 use Rattle.fitting.proofs.Listed.{part, part_rest}

@@ -2,7 +2,7 @@
 use Rattle.std.proofs.Common.{rules, ◌≡◌, ◌<◌, ◌^◌, arith, add-one, refl}
 use Rattle.std.specs.Prelude.{length, get_or}
 use Rattle.laws.specs.Below.{sum_below}
-use Rattle.relay.specs.RowCycle.{no_station}
+use Rattle.relay.specs.Station.{no_station}
 use Rattle.fitting.specs.Loops.Passes.{counted}
 use Rattle.fitting.proofs.passes.held.Goals as goal
 

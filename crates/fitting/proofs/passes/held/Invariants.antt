@@ -2,7 +2,7 @@
 use Rattle.std.proofs.Common.{◌≡◌, ◌*◌, ◌≤◌}
 use Rattle.std.specs.Prelude.{get_or}
 use Rattle.laws.specs.Below.{sum_below}
-use Rattle.relay.specs.RowCycle.{no_station}
+use Rattle.relay.specs.Station.{no_station}
 use Rattle.fitting.proofs.passes.held.Given as goal
 
 abbrev pub invariant-loop-station : goal.invariant-loop-station
