@@ -82,8 +82,8 @@ enum channel_bench_number {
     CHANNEL_BENCH_REFUSED_CYCLES = 22    /* the cycle count is 1,000,000 */
 };
 
-/* A state as bytes, each number low byte first. A state is exactly CHANNEL_BENCH_STATE_BYTES long; with any other length it
- * does not fit (21).
+/* A state as bytes, each number low byte first: the first CHANNEL_BENCH_STATE_BYTES of what is handed over. What follows them
+ * is not looked at, and stays. Where there are fewer, the state does not fit (21); for a fresh one there is no room (13).
  *
  *     place           bytes   what
  *     0               4       cycle count

@@ -500,7 +500,9 @@ pub fn changed_image(random: &mut Random, net: &Netlist) -> Vec<u8> {
 fn resize_state(bytes: &mut Vec<u8>, random: &mut Random) {
     let any = random.below(STATE_BYTES);
     let length = random.pick(&[0, 1, STATE_BYTES - 1, STATE_BYTES + 1, 2 * STATE_BYTES, any]);
-    bytes.resize(length, 0);
+    // What stands behind a state is anything.
+    let behind = random.draw() as u8;
+    bytes.resize(length, behind);
 }
 
 /// Room for a result of `need` places: more, exact or too little.

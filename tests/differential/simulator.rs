@@ -254,11 +254,9 @@ impl State {
         net.channels.iter().zip(&links).map(|(channel, links)| links[channel.stations].letter()).collect()
     }
 
-    /// Takes bytes apart, if they are a state that fits the netlist; 21 if not.
+    /// Takes bytes apart, if the first of them are a state that fits the netlist; 21 if not.
     pub fn read(net: &Netlist, bytes: &[u8]) -> Verdict<State> {
-        if bytes.len() != STATE_BYTES {
-            return Err(21);
-        }
+        let bytes = bytes.get(..STATE_BYTES).ok_or(21)?;
         let mut state = State::fresh(net);
         state.cycle = signed(bytes, 0) as u32;
         for (i, shell) in state.shells.iter_mut().enumerate() {
