@@ -3,7 +3,7 @@
 #   bash tests/budget.sh watch FILE   notes in FILE what processor time each check takes, until it is ended
 #   bash tests/budget.sh [FILE]       tests the rules, and with FILE prints the seconds by crate
 # Machines differ, so a crate over its time is a warning. What fails: a file of computed examples outside worked_examples, an exported
-# function without ensures, and one with requires that is not listed here. The last line is 'N passed, M failed'.
+# function without ensures, and one with requires. The last line is 'N passed, M failed'.
 set -eu
 
 # Seconds of processor time: of a crate, its proof and its edits; of a test program; of all crates. More have capi,
@@ -13,8 +13,6 @@ each=200
 program=60
 all=4000
 more=' capi:240 clock:240 trace:220 test_engine:100 '
-# These asked something of their caller before the rule; no other does.
-asking=' clock::cycles readings::show '
 
 # watch FILE: a line for each check that runs, three times a second: what tells it from others, its crate, what it is
 # for, and its hundredths of a second so far. An edit is checked over what the crate's own check left.
@@ -88,6 +86,6 @@ source tests/verdict.sh
 
 verdict "a file of computed examples outside worked_examples" "$(find crates -name 'Examples*.antt' -not -path '*/out/*' | tr '\n' ' ')"
 verdict "exported without ensures" "$(exported | awk '!/ ensures/ { printf "%s ", $1 } END { if (NR == 0) print "nothing was found" }')"
-verdict "exported with requires" "$(exported | awk -v asking="$asking" '/ requires/ && !index(asking, " " $1 " ") { printf "%s ", $1 }')"
+verdict "exported with requires" "$(exported | awk '/ requires/ { printf "%s ", $1 }')"
 echo "$passed passed, $failed failed"
 [ "$failed" -eq 0 ]

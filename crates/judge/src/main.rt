@@ -29,7 +29,7 @@ impl fmt::Display for Line {
     fn fmt<W: fmt::Write>(&self, f: &mut fmt::Formatter<W>) -> fmt::Result {
         match self.verdict {
             Ok(()) => write!(f, "accepted\n"),
-            Err(refusal) => write!(f, "refused {}\n", refusal.number()),
+            Err(refusal) => write!(f, "{refusal}\n"),
         }
     }
 }

@@ -1,8 +1,9 @@
 // Why a call is refused. Each reason has a number, which C callers and the programs are told.
 #![tactic(auto)]
 
-ghost use Rattle.std.specs.Prelude.{◌≡◌};
+ghost use Rattle.std.specs.Prelude.{◌≡◌, Some};
 ghost use Rattle.refusal.specs.Number.{number};
+ghost use Rattle.refusal.specs.Text.{refusal_text};
 
 use std::fmt;
 
@@ -56,6 +57,8 @@ impl Refusal {
 }
 
 impl fmt::Display for Refusal {
+    ghost output = { λ refusal. Some (refusal_text (number refusal)) };
+
     fn fmt<W: fmt::Write>(&self, f: &mut fmt::Formatter<W>) -> fmt::Result {
         write!(f, "refused {}", self.number())
     }
