@@ -6,15 +6,16 @@
 // stores through its last references.
 //
 // A function reads the state or the records out of the bytes (`decode`), calls the crate that does the
-// work, and writes them back if the call was accepted (`encode`). Nothing is judged here: bytes of a
-// wrong length are read as a state or a record that fits nothing, so that number 21, its place in the
-// order, and all that a refusal leaves come from the crates below. The contracts are their definitions
-// on `state_in bytes`, `record_in bytes` and `row_in bytes`.
+// work, and writes them back if the call was accepted (`encode`). Nothing is judged here: too few bytes
+// for a state, or bytes of a wrong length for a record, are read as one that fits nothing, so that
+// number 21, its place in the order, and all that a refusal leaves come from the crates below. The
+// contracts are their definitions on `state_in bytes`, `record_in bytes` and `row_in bytes`.
 //
 // That readers and writers agree is said by none of the contracts: two wrong ones would fit each
 // other. `state_back` says it (proofs/Back.antt of `layout`): a reader does not mind what stands
 // before its place (`node_behind`) and finds what was written there (`node_front`); `each_back` makes
-// of these two that it finds each of a list of records.
+// of these two that it finds each of a list of records. So lists of calls on bytes obey the token rule
+// (`token_rule_c`).
 #![tactic(auto)]
 
 ghost use Rattle.std.specs.Prelude.{[], ◌∷◌, ◌≡◌, length};

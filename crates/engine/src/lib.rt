@@ -21,8 +21,8 @@ use state::{Refused, State};
 // Returns the netlist of an image, given a state that fits it. Refused by 1 to 11, then by 21 where the
 // state does not fit. The state comes by value: behind a reference an array's length is known only where
 // a part of it is taken. Image and state are two parameters here, as C hands them over, and that they
-// fit is asked of no caller. The clauses `number` and `same` tie the
-// netlist to the image that was handed in.
+// fit is asked of no caller. The clauses `number` and `same` tie the netlist to the image that was
+// handed in.
 pub fn fitted<'a>(image: &'a [u8], state: State) -> Result<Netlist<'a>, Refusal>
     ensures number { number_of result ≡ state_number image.entry.now state }
     ensures same { IfOk result (λ netlist. netlist.image ≡ image.entry) }

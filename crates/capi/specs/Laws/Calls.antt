@@ -21,13 +21,13 @@ use Rattle.engine.specs.Laws.Answer.{number_ok, state_ok, run_none}
 use Rattle.cycle.specs.Run.{RunDone}
 use Rattle.refusal.specs.Number.{number_of}
 use Rattle.refusal.specs.declared.Refusal.{Refusal}
-use Rattle.writer.specs.Write.{written_answer, written_over, WriteDone, WriteTold}
+use Rattle.writer.specs.Write.{written_answer, written_over, WriteDone}
 use Rattle.writer.specs.Laws.Write.{write_done}
 use Rattle.tracer.specs.Laws.Done.{line_made}
-use Rattle.tracer.specs.Done.{LineTold, line_answer, LineDone, ClosingDone}
+use Rattle.tracer.specs.Done.{LineTold, line_answer, LineDone}
 use Rattle.layout.specs.Bytes.{state_bytes, state_length, state_in, no_state}
-use Rattle.layout.specs.Laws.Bytes.{all_stored, state_long}
-use Rattle.capi.specs.Calls.{state_over, fresh_number, fresh_over, state_left, FreshCall, StepCall, RunCall, LineCall, ClosingCall}
+use Rattle.layout.specs.Laws.Bytes.{state_long}
+use Rattle.capi.specs.Calls.{state_over, fresh_number, fresh_over, state_left, FreshCall, StepCall, RunCall, LineCall}
 
 -- ---- fewer bytes than a state has
 module _ (img bytes : List ℕ) where
@@ -191,13 +191,3 @@ module _
         changed = rw (ne_eqb answer.number 0 n);
         over = d.over;
       }
-
-pub closing_called :
-    (bytes : List ℕ) {img out : List ℕ} {answer : WriteTold} {out_left : List ℕ} → ClosingDone img (state_in bytes) out answer out_left
-    → ClosingCall img bytes out answer.number answer.length out_left
-closing_called bytes d =
-    record {
-      numbered = ap (λ (a : WriteTold). a.number) d.answered;
-      measured = ap (λ (a : WriteTold). a.length) d.answered;
-      over = d.over;
-    }

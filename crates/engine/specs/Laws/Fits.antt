@@ -60,14 +60,15 @@ module _ (img : List ℕ) (s : State) (shape : Shaped s) where
   pub run-fits :
       (words : List ℕ) (answer : RunTold) → RunDone img s words answer
       → (state_number img s ≡ 0 → fits img answer.state ≡ true) × (state_number img s ≢ 0 → answer.state ≡ s)
-  run-fits words answer done =
-      ((λ z.
-      let k = state_ok img s z in
-      let a = accepted img k.0 in
-      let f = ran_kept img (Fitting img) (λ word t ok n. fitting-next img a word t ok (omega (arith, ok.cycled, n))) words s (fit z) in
-      let e : answer.state ≡ (ran_from img s words).state = ap (λ (r : RunTold). r.state) (done.answered ∙ sym (run-made img s words k.0 k.1)) in
-      rw e (fits-fitting img a (ran_from img s words).state f)),
-      (λ n. ap (λ (r : RunTold). r.state) (done.answered ∙ sym (run_none img s words n))))
+  run-fits words answer done = (
+    (λ z.
+        let k = state_ok img s z in
+        let a = accepted img k.0 in
+        let f = ran_kept img (Fitting img) (λ word t ok n. fitting-next img a word t ok (omega (arith, ok.cycled, n))) words s (fit z) in
+        let e : answer.state ≡ (ran_from img s words).state = ap (λ (r : RunTold). r.state) (done.answered ∙ sym (run-made img s words k.0 k.1)) in
+        rw e (fits-fitting img a (ran_from img s words).state f)),
+    (λ n. ap (λ (r : RunTold). r.state) (done.answered ∙ sym (run_none img s words n))),
+  )
 
 -- "steps equal the rise of the cycle count": whatever image and state are
 pub run-rise :

@@ -4,13 +4,13 @@ use Rattle.std.proofs.lemmas.Bool.{false≢true}
 use mathlib.Core.List.{List, [], ◌∷◌, ◌++◌, append_assoc}
 use Rattle.std.proofs.Math.Logic.{⊎_elim}
 use Rattle.std.proofs.Math.Path.{ap, sym}
-use Rattle.std.proofs.Common.{◌∙◌, le-leb, length-take, drop_of_length-le, take_all, get_or-append-add}
+use Rattle.std.proofs.Common.{◌∙◌, le-leb, length-take, take_all, get_or-append-add}
 use Prim.Native.Nat.{ℕ, zero, suc, ◌+◌, ◌-◌, ◌<◌, ◌≤◌, min}
 use Rattle.std.proofs.Math.Numerals.{add-one}
 use native.Mathlib.Omega.{arith}
 use Rattle.std.proofs.Math.ListN.{length, take, replicate, length-append, get_or-append, get_or-eq_default}
 use Rattle.std.proofs.lemmas.List.{length-replicate, replicate-append-replicate}
-use Rattle.std.proofs.Math.Seq.{take-length, drop-length, take-append_seam, set-append_seam, append_snoc, get_or-take, ext_get_or}
+use Rattle.std.proofs.Math.Seq.{take-length, take-append_seam, set-append_seam, append_snoc, get_or-take, ext_get_or}
 use Rattle.laws.specs.Laws.Cases.{lt-or-ge}
 use Rattle.laws.specs.Choice.{◌if◌else◌}
 use Rattle.laws.specs.Laws.Choice.{one_few}
@@ -52,19 +52,12 @@ module _ {A : Type 0} where
   two_count (x ∷ []) = refl
   two_count (x ∷ y ∷ xs) = sym (le-leb 2 (suc (suc (length xs))) (omega arith))
 
-  -- `take n` and `drop n` reach no further than the end of the list
+  -- `take n` reaches no further than the end of the list
   pub take_min : (n : ℕ) (xs : List A) → take n xs ≡ take (min n (length xs)) xs
   take_min n xs =
       ⊎_elim
       (λ (h : n < length xs). let e : min n (length xs) ≡ n = omega arith in rw e)
       (λ (h : length xs ≤ n). let e : min n (length xs) ≡ length xs = omega arith in rw (e, take_all n xs h, take-length))
-      (lt-or-ge n (length xs))
-
-  pub drop_min : (n : ℕ) (xs : List A) → drop n xs ≡ drop (min n (length xs)) xs
-  drop_min n xs =
-      ⊎_elim
-      (λ (h : n < length xs). let e : min n (length xs) ≡ n = omega arith in rw e)
-      (λ (h : length xs ≤ n). let e : min n (length xs) ≡ length xs = omega arith in rw (e, drop_of_length-le xs h, drop-length))
       (lt-or-ge n (length xs))
 
   -- ---- padded lists: the elements come back, and what follows them is d

@@ -1,15 +1,15 @@
 -- Laws of tables. Assumes nothing.
 use Rattle.std.specs.Prelude.{Bool, false, ◌&&◌, ◌||◌, ◌≡◌, eqb, get_or, set, take}
 use Rattle.std.proofs.Math.Bool.{or-false}
-use mathlib.Core.List.{List, [], ◌∷◌, ◌++◌, map, append_assoc, append-nil}
+use mathlib.Core.List.{List, [], ◌∷◌, ◌++◌, append_assoc}
 use Rattle.std.proofs.Math.Logic.{⊎_elim}
 use Rattle.std.proofs.Math.Path.{refl, ap}
-use Rattle.std.proofs.Common.{sym, ◌∙◌, not-suc-le-zero, le_of_suc-le-suc, add-one, eq-eqb, ne_eqb, length-append, length-drop, length-set, take_all, drop-cons, get_or-set_same, get_or-set_other, ext_get_or}
+use Rattle.std.proofs.Common.{sym, ◌∙◌, not-suc-le-zero, le_of_suc-le-suc, add-one, eq-eqb, ne_eqb, length-append, length-set, take_all, drop-cons, get_or-set_same, get_or-set_other, ext_get_or}
 use Prim.Native.Nat.{ℕ, zero, suc, ◌+◌, ◌-◌, ◌<◌, ◌≤◌}
 use Rattle.std.proofs.Math.Decide.{ℕ_discrete}
 use native.Mathlib.Omega.{arith}
-use Rattle.std.proofs.Math.ListN.{length, drop, replicate, drop_of_length-le, get_or-append, get_or-map}
-use Rattle.std.proofs.lemmas.List.{length-map, length-replicate, get_or_at}
+use Rattle.std.proofs.Math.ListN.{length, drop, replicate, get_or-append}
+use Rattle.std.proofs.lemmas.List.{length-replicate, get_or_at}
 use Rattle.std.proofs.Math.Seq.{take-append-le, drop-append-add, set_at}
 use Rattle.laws.specs.Laws.Cases.{lt-or-ge, below_suc}
 use Rattle.laws.specs.Lists.{padded}
@@ -64,20 +64,10 @@ module _ {A : Type 0} where
   over_set f n (x ∷ l) h =
       rw (drop-cons (x ∷ l) n x h, set_at (table f n) (get_or (x ∷ l) n x) (drop (suc n) (x ∷ l)) (f n) n (length-table f n), append_assoc)
 
-  -- a loop that writes a table over an array: one turn, and all of them
+  -- a loop that writes a table over an array: one turn
   pub over_next :
       (f : ℕ → A) (l : List A) {n : ℕ} {xs : List A} {x : A} → n < length l → xs ≡ table_over f n l → x ≡ f n → set xs n x ≡ table_over f (n + 1) l
   over_next f l {n} h e q = rw (e, q, add-one n) (over_set f n l h)
-
-  pub over_all : (f : ℕ → A) (l : List A) {n m : ℕ} {xs : List A} → n ≡ m → length l ≡ m → xs ≡ table_over f n l → xs ≡ table f m
-  unfolding table_over
-  over_all f l {n} {m} q long e =
-      let none : length l ≤ m = omega (arith, long) in
-      e ∙ rw (q, drop_of_length-le l none, append-nil)
-
-  pub length_over : (f : ℕ → A) (n : ℕ) (l : List A) → n ≤ length l → length (table_over f n l) ≡ length l
-  unfolding table_over
-  length_over f n l h = rw (length-append, length-table, length-drop) (omega arith)
 
   -- where a table is written over a list, the list has the table's entry at each of the table's places
   pub over_at : (f : ℕ → A) (n : ℕ) (l : List A) (i : ℕ) (d : A) → i < n → get_or (table_over f n l) i d ≡ f i
@@ -173,13 +163,6 @@ pub table_own : {A : Type 0} (l : List A) (d : A) → l ≡ table (λ i. get_or 
 table_own {A = A} l d =
     let f : ℕ → A = λ i. get_or l i d in
     ext_get_or d l (table f (length l)) (sym (length-table f (length l))) (λ i h. sym (table_at f (length l) i d h))
-
--- what a function makes of a list is the table of what it makes of each element
-pub table-map : {A B : Type 0} (g : A → B) (l : List A) (d : A) → table (λ i. g (get_or l i d)) (length l) ≡ map g l
-table-map {B = B} g l d =
-    let f : ℕ → B = λ i. g (get_or l i d) in
-    ext_get_or (g d) (table f (length l)) (map g l) (length-table f (length l) ∙ sym (length-map l g))
-    (λ i h. table_at f (length l) i (g d) (rw (← (length-table f (length l))) h) ∙ sym (get_or-map g l i d))
 
 -- raising the flag at place i of a table of flags leaves the table of the flags with that one raised
 pub table_raise :
