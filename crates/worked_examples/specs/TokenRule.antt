@@ -1,5 +1,5 @@
 -- The words of the token rule, computed.
-use Rattle.std.specs.Prelude.{true, List, [], ◌∷◌, ◌≡◌, refl, ℕ, ℤ, pos, replicate}
+use Rattle.std.specs.Prelude.{true, List, [], ◌∷◌, ◌≡◌, refl, ℕ, pos, map, replicate}
 use Rattle.laws.specs.Below.{all_below, any_below, most_below, pick_below}
 use Rattle.laws.specs.Signed.{signed}
 use Rattle.laws.specs.Lists.{padded}
@@ -21,6 +21,7 @@ use Rattle.cycle.specs.Run.{sets_above}
 use Rattle.token_rule.specs.Cycles.{fired_in, arrivals}
 use Rattle.token_rule.specs.Calls.{Call, step, run, goes, roomy, makes, run_cycles, cycles_in, cycles_of}
 use Rattle.token_rule.specs.Progress.{most_stations, Awake}
+use Rattle.token_rule_c.specs.Calls.{CallBytes, step_bytes, run_bytes, on_state}
 
 -- ---- the cycles of a list
 -- a step with its word and the lengths of its arrays. Cycles follow from what the calls are given, so the answers are left blank here
@@ -47,6 +48,19 @@ made :
     × (cycles_of figure4 999998 (told (0 ∷ []) ∷ told (1 ∷ 2 ∷ []) ∷ asked 0 4 4 ∷ []) ≡ 0 ∷ 1 ∷ [])
 unfolding nodes channels sets_above goes roomy makes run_cycles cycles_in cycles_of
 made = (refl, refl)
+
+-- the same calls on the bytes of a state: the second step has a word with bit 5
+abbrev asked_bytes : ℕ → CallBytes
+asked_bytes w =
+    step_bytes
+    record { word = w; letters = replicate 4 0; values = replicate 4 (pos 0); number = 0; left = []; letters_left = []; values_left = [] }
+
+abbrev told_bytes : List ℕ → CallBytes
+told_bytes words = run_bytes record { words = words; number = 0; steps = 0; left = [] }
+
+made_on_bytes : cycles_of figure4 0 (map on_state (asked_bytes 1 ∷ asked_bytes 32 ∷ told_bytes (0 ∷ 16 ∷ 32 ∷ 0 ∷ []) ∷ [])) ≡ 1 ∷ 0 ∷ 16 ∷ []
+unfolding nodes channels sets_above goes roomy makes run_cycles cycles_in cycles_of on_state
+made_on_bytes = refl
 
 -- ---- figure 4's eleven cycles: what has arrived on channel 1, where 105 stood a cycle before it passed, and the firings of node 0
 words : List ℕ
