@@ -8,8 +8,8 @@
 // A cycle has the parts of a shell's cycle, each a loop with its comment: data validation and back
 // pressure over the channels, clock gating over the nodes, and the move over the channels with their
 // rows. The first two share a loop because both look at the two ends of a channel; they write to
-// arrays of their own. Every part reads the state at the start of the cycle, `old`, and writes to `s`:
-// no part can see what another has changed, and each loop's invariant is one equation about `old`.
+// arrays of their own. Every part reads the state at the start of the cycle, `old`, and writes to the lent
+// one: no part can see what another has changed, and each loop's invariant is one equation about `old`.
 //
 // `cycles` is one function because a state that is handed on is copied (docs/PERFORMANCE.md). What it
 // calls is small: the leaves of `pearl`, `relay` and `shell`, `fired` and `stalls`. The image is decoded
@@ -92,30 +92,32 @@ fn wires_of(netlist: Netlist) -> [Wire; 96]
     wires
 }
 
-// The state after one cycle for each of `words`, in order, given a state that fits the netlist's image
-// and no more words than cycles are left. Each cycle is worked from the state at its start, `old`,
-// and written to `s`. It is one function because a state that is handed to another is copied, which
-// costs a tenth of the cycle each time (docs/PERFORMANCE.md). For the same reason a wire's fields are
-// taken out in both loops over the channels, and once more in `readings`. Netlist and state are no
-// struct that says that they fit: what made one would answer a state of 13 kB in a `Result`. What is decoded of the netlist stands beside the state's arrays: it is the
-// same in every cycle.
+// Leaves in `state` the state after one cycle for each of `words`, in order, given a state that fits the
+// netlist's image and no more words than cycles are left. Each cycle is worked from the state at its
+// start, `old`, and written to `state`. It is one function because a state that is handed to another is
+// copied, which costs a tenth of the cycle each time, and is lent one for the same reason; where it is
+// inlined the states of its caller are copied more often (docs/PERFORMANCE.md). For that reason too a
+// wire's fields are taken out in both loops over the channels, and once more in `readings`. Netlist and
+// state are no struct that says that they fit: what made one would answer a state of 13 kB in a
+// `Result`. What is decoded of the netlist stands beside the state's arrays: it is the same in every
+// cycle.
 //
 // The loops go by index: each turn reads and writes several arrays, at places that it works out.
 // Starved, blocked and firing nodes have arrays of their own, since a channel starves one node and
 // blocks another. What the inputs bring stands flat, port p of node n at place 3 * n + p, as the judge's
 // fed ports and the strict run's feeders do: one law of ports serves all three.
-fn cycles(netlist: Netlist, state: State, words: &[u64]) -> State
-    requires fitting { Fitting netlist.image.now state }
-    requires words_bound { state.cycles + length words.now ≤ 1000000 }
-    ensures { result ≡ after netlist.entry.image.now state words.now }
+#[inline(never)]
+fn cycles(netlist: Netlist, state: &mut State, words: &[u64])
+    requires fitting { Fitting netlist.image.now state.old }
+    requires words_bound { state.old.cycles + length words.now ≤ 1000000 }
+    ensures { state.new ≡ after netlist.entry.image.now state.old words.now }
 {
     let nodes = netlist.nodes() as usize;
     let channels = netlist.channels() as usize;
     let wires = wires_of(netlist);
     let kinds = node::kinds_of(netlist);
-    let mut s = state;
     for &word in words {
-        let old = s;
+        let old = *state;
         // Data validation, and back pressure: which nodes an input is not ready for, what the inputs
         // bring, and which nodes are blocked.
         let mut starved = [false; 64];
@@ -147,7 +149,7 @@ fn cycles(netlist: Netlist, state: State, words: &[u64]) -> State
         for n in 0..nodes {
             if !stalls(word, n) & !starved[n] & !blocked[n] {
                 let node = old.nodes[n];
-                s.nodes[n] = fired(
+                state.nodes[n] = fired(
                     node,
                     kinds[n],
                     brought[3 * n],
@@ -180,18 +182,17 @@ fn cycles(netlist: Netlist, state: State, words: &[u64]) -> State
                 if j + 1 < length {
                     below = old.stations[8 * c + (j + 1)].full();
                 }
-                s.stations[8 * c + j] = station.after(link, below);
+                state.stations[8 * c + j] = station.after(link, below);
                 link = station.link();
             }
             let takes = fires[to];
             if takes | (link.is_some() & !full) {
-                s.queues[c] = queue.after(link, full, takes);
+                state.queues[c] = queue.after(link, full, takes);
             }
-            s.pending[c] = u8::from(shell::pending_after(pending, stop, fires[from]));
+            state.pending[c] = u8::from(shell::pending_after(pending, stop, fires[from]));
         }
-        s.cycles = old.cycles + 1;
+        state.cycles = old.cycles + 1;
     }
-    s
 }
 
 // Returns whether a stall word sets a bit at or above n.
@@ -234,18 +235,16 @@ fn words_taken(nodes: u8, cycles: u32, words: &[u64]) -> Taken
 pub fn run(netlist: Netlist, state: State, words: &[u64]) -> Ran
     ensures { RunDone netlist.entry.image.now state words.now (run_told result) }
 {
-    if !fitting::fits(netlist, &state) {
-        return Ran {
-            steps: 0,
-            state,
-            stopped: Some(Refusal::Misfit),
-        };
+    let mut ran = Ran {
+        steps: 0,
+        state,
+        stopped: Some(Refusal::Misfit),
+    };
+    if fitting::fits(netlist, &ran.state) {
+        let taken = words_taken(netlist.nodes(), ran.state.cycles, words);
+        cycles(netlist, &mut ran.state, &words[..taken.steps]);
+        ran.steps = taken.steps as u32;
+        ran.stopped = taken.stopped;
     }
-    let taken = words_taken(netlist.nodes(), state.cycles, words);
-    let last = cycles(netlist, state, &words[..taken.steps]);
-    Ran {
-        steps: taken.steps as u32,
-        state: last,
-        stopped: taken.stopped,
-    }
+    ran
 }

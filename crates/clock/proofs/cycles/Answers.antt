@@ -108,7 +108,7 @@ pub loop-c-preserved : goal.loop-c-preserved
 loop-c-preserved c =
     let img = c.args.netlist.image.now in
     let net = (accepted c.args.netlist.image.now c.args.netlist.accepted) in
-    let s = c.loop-word.s in
+    let s = c.loop-word.state in
     let fit = c.loop-word.invariant.fits in
     let i = c.loop-c.c in
     let h : i < channels img = omega (arith, c.channels-channels.ensures.value) in
@@ -152,7 +152,7 @@ pub loop-n-preserved : goal.loop-n-preserved
 loop-n-preserved c =
     let img = c.args.netlist.image.now in
     let net = (accepted c.args.netlist.image.now c.args.netlist.accepted) in
-    let s = c.loop-word.s in
+    let s = c.loop-word.state in
     let fit = c.loop-word.invariant.fits in
     let w = get_or c.args.words.now c.loop-word.word-index 0 in
     let scan = c.loop-c in
@@ -165,12 +165,12 @@ loop-n-preserved c =
     (scan.invariant.1 ∙ ap (starved_below img s) all) (scan.invariant.3 ∙ ap (blocked_below img s) all) _ c.stalls.ensures in
     let brought = scan.invariant.2 ∙ ap (brought_below img s) all in
     let at : ℕ → ℤ = λ (i : ℕ). get_or scan.brought i (pos 0) in
-    let r = gated_turn img net s fit w n there l.s join.s l.fires join.fires l.invariant.1 l.invariant.2
+    let r = gated_turn img net s fit w n there l.state join.state l.fires join.fires l.invariant.1 l.invariant.2
     (elim c.if-stalls-starved.branch [
       | then-stalls-starved w' ↦
           let f = sym test ∙ w'.if-stalls-starved.true in
-          inl (f, (_, w'.fired.ensures ∙ fired-read img net s fit w n there f _ c.kinds_of-kinds.ensures scan.brought brought _ _ _ (to_z-of_z (told (at (3 * n)) w'.fired-arg-then-stalls-starved-1.given)) (to_z-of_z (told (at (3 * n + 1)) w'.fired-arg-then-stalls-starved-2-1.given)) (to_z-of_z (told (at (3 * n + 2)) w'.fired-arg-then-stalls-starved-3-1.given)), w'.s-is), w'.fires-is)
-      | else-stalls-starved w' ↦ inr (sym test ∙ w'.if-stalls-starved.false, w'.s-is, w'.fires-is)
+          inl (f, (_, w'.fired.ensures ∙ fired-read img net s fit w n there f _ c.kinds_of-kinds.ensures scan.brought brought _ _ _ (to_z-of_z (told (at (3 * n)) w'.fired-arg-then-stalls-starved-1.given)) (to_z-of_z (told (at (3 * n + 1)) w'.fired-arg-then-stalls-starved-2-1.given)) (to_z-of_z (told (at (3 * n + 2)) w'.fired-arg-then-stalls-starved-3-1.given)), w'.state-is), w'.fires-is)
+      | else-stalls-starved w' ↦ inr (sym test ∙ w'.if-stalls-starved.false, w'.state-is, w'.fires-is)
     ]) in
     (omega arith, r.0, r.1)
 
@@ -183,8 +183,8 @@ bounds-old-c-in-loop-j c = omega (arith, move_within (goal.at.bounds-old-c-in-lo
 pub bounds-old-c-then-j-length : goal.bounds-old-c-then-j-length
 bounds-old-c-then-j-length c = omega (arith, move_within (goal.at.bounds-old-c-then-j-length c).In-loop-c-2)
 
-pub bounds-s-c : goal.bounds-s-c
-bounds-s-c c = omega (arith, move_within (goal.at.bounds-s-c c).In-loop-c-2)
+pub bounds-state-c : goal.bounds-state-c
+bounds-state-c c = omega (arith, move_within (goal.at.bounds-state-c c).In-loop-c-2)
 
 pub bounds-fires-to : goal.bounds-fires-to
 bounds-fires-to c = omega (arith, move_within (goal.at.bounds-fires-to c).In-loop-c-2)
@@ -196,7 +196,7 @@ pub loop-j-init : goal.loop-j-init
 loop-j-init c =
     let img = c.args.netlist.image.now in
     let net = (accepted c.args.netlist.image.now c.args.netlist.accepted) in
-    let s = c.loop-word.s in
+    let s = c.loop-word.state in
     let fit = c.loop-word.invariant.fits in
     let w = get_or c.args.words.now c.loop-word.word-index 0 in
     let i = c.loop-c-2.c in
@@ -213,7 +213,7 @@ pub loop-j-preserved : goal.loop-j-preserved
 loop-j-preserved c =
     let img = c.args.netlist.image.now in
     let net = (accepted c.args.netlist.image.now c.args.netlist.accepted) in
-    let s = c.loop-word.s in
+    let s = c.loop-word.state in
     let fit = c.loop-word.invariant.fits in
     let w = get_or c.args.words.now c.loop-word.word-index 0 in
     let i = c.loop-c-2.c in
@@ -231,7 +231,7 @@ loop-j-preserved c =
     let next = c.after.ensures
     ∙ station-read img net s fit i h _ e w l.j inside l.link join.below l.invariant.2 (rw add-one at stop) in (
       omega arith,
-      row_turn img net s fit i h _ e w s.cycles (nodes_below img w s c.nodes-nodes.result) l.j inside l.s l.invariant.1 _ next,
+      row_turn img net s fit i h _ e w s.cycles (nodes_below img w s c.nodes-nodes.result) l.j inside l.state l.invariant.1 _ next,
       link_read img s i _ e l.j inside c.link-link.result c.link-link.ensures,
     )
 
@@ -239,7 +239,7 @@ pub loop-c-2-preserved : goal.loop-c-2-preserved
 loop-c-2-preserved c =
     let img = c.args.netlist.image.now in
     let net = (accepted c.args.netlist.image.now c.args.netlist.accepted) in
-    let s = c.loop-word.s in
+    let s = c.loop-word.state in
     let fit = c.loop-word.invariant.fits in
     let w = get_or c.args.words.now c.loop-word.word-index 0 in
     let i = c.loop-c-2.c in
@@ -261,11 +261,11 @@ loop-c-2-preserved c =
     let ns = nodes_below img w s c.nodes-nodes.result in
     let join = c.if-takes-is_some in (
       omega arith,
-      channel_turn img net s fit i h _ e w s.cycles ns l.s join.s
+      channel_turn img net s fit i h _ e w s.cycles ns l.state join.state
           (l.invariant.1 ∙ ap (λ (j : ℕ). moved_below img w s s.cycles ns i (8 * i + j)) end)
           (elim c.if-takes-is_some.branch [
-            | then-takes-is_some w' ↦ inl (_, w'.after-then-takes-is_some.ensures ∙ queue_read img net s fit i h _ e w l.link _ _ link full ends.0, w'.s-is)
-            | else-takes-is_some w' ↦ inr (w'.s-is, queue_idle img net s fit i h _ e w l.link _ _ link full ends.0 _ c.is_some.ensures w'.if-takes-is_some.false)
+            | then-takes-is_some w' ↦ inl (_, w'.after-then-takes-is_some.ensures ∙ queue_read img net s fit i h _ e w l.link _ _ link full ends.0, w'.state-is)
+            | else-takes-is_some w' ↦ inr (w'.state-is, queue_idle img net s fit i h _ e w l.link _ _ link full ends.0 _ c.is_some.ensures w'.if-takes-is_some.false)
           ])
           _
           (c.from.ensures ∙ byte c.pending_after.result ∙ ap (λ (b : Bool). 1 if b else 0) c.pending_after.ensures
@@ -275,7 +275,7 @@ loop-c-2-preserved c =
 pub loop-word-preserved : goal.loop-word-preserved
 loop-word-preserved c =
     let img = c.args.netlist.image.now in
-    let s = c.loop-word.s in
+    let s = c.loop-word.state in
     let made = c.loop-word.invariant in
     let w = get_or c.args.words.now c.loop-word.word-index 0 in
     let a = c.args in
@@ -286,12 +286,12 @@ loop-word-preserved c =
     let moved = l.invariant.1
     ∙ ap (λ (n : ℕ). moved_below img w s s.cycles (nodes_below img w s n) l.c (8 * l.c)) c.nodes-nodes.ensures.value
     ∙ ap (λ (k : ℕ). moved_below img w s s.cycles (nodes_below img w s (nodes img)) k (8 * k)) all in
-    let e = cycle_turn img w s made.fits l.s moved in
+    let e = cycle_turn img w s made.fits l.state moved in
     record {
       done = omega arith;
       state =
-          e ∙ ap (state_after img w) made.state ∙ sym (after_next img a.state words t (omega arith))
-          ∙ ap (λ (n : ℕ). after img a.state (take n words)) (sym (add-one t));
+          e ∙ ap (state_after img w) made.state ∙ sym (after_next img a.state.now words t (omega arith))
+          ∙ ap (λ (n : ℕ). after img a.state.now (take n words)) (sym (add-one t));
       fits = rw e (fitting-next img (accepted c.args.netlist.image.now c.args.netlist.accepted) w s made.fits (omega (arith, made.count)));
       count = omega (arith, made.count);
     }

@@ -24,15 +24,15 @@ invariant-loop-c l =
 
 abbrev pub invariant-loop-n : goal.invariant-loop-n
 invariant-loop-n l =
-    (l.n ≤ l.nodes) × (l.s ≡ moved_below l.netlist.image.now l.word l.old l.old.cycles (nodes_below l.netlist.image.now l.word l.old l.n) 0 0) × (l.fires ≡ fires_below l.netlist.image.now l.word l.old l.n)
+    (l.n ≤ l.nodes) × (l.state ≡ moved_below l.netlist.image.now l.word l.old l.old.cycles (nodes_below l.netlist.image.now l.word l.old l.n) 0 0) × (l.fires ≡ fires_below l.netlist.image.now l.word l.old l.n)
 
 abbrev pub invariant-loop-j : goal.invariant-loop-j
 invariant-loop-j l =
-    (l.j ≤ l.length) × (l.s ≡ moved_below l.netlist.image.now l.word l.old l.old.cycles (nodes_below l.netlist.image.now l.word l.old l.nodes) l.c (8 * l.c + l.j)) × (token l.link ≡ link_in l.netlist.image.now l.old l.c l.j)
+    (l.j ≤ l.length) × (l.state ≡ moved_below l.netlist.image.now l.word l.old l.old.cycles (nodes_below l.netlist.image.now l.word l.old l.nodes) l.c (8 * l.c + l.j)) × (token l.link ≡ link_in l.netlist.image.now l.old l.c l.j)
 
 abbrev pub invariant-loop-c-2 : goal.invariant-loop-c-2
 invariant-loop-c-2 l =
-    (l.c ≤ l.channels) × (l.s ≡ moved_below l.netlist.image.now l.word l.old l.old.cycles (nodes_below l.netlist.image.now l.word l.old l.nodes) l.c (8 * l.c))
+    (l.c ≤ l.channels) × (l.state ≡ moved_below l.netlist.image.now l.word l.old l.old.cycles (nodes_below l.netlist.image.now l.word l.old l.nodes) l.c (8 * l.c))
 
 abbrev pub invariant-loop-word : goal.invariant-loop-word
-invariant-loop-word l = Made l.netlist.image.now l.words l.initial.s l.s l.word-index
+invariant-loop-word l = Made l.netlist.image.now l.words l.initial.state l.state l.word-index

@@ -10,22 +10,19 @@ use Rattle.cycle.specs.Cycle.{after}
 use Rattle.cycle.specs.Laws.Run.{run_21, run-made, ran_taken, taken_few}
 use Rattle.cycle.specs.Loops.Taken.{TakenTold, taken_from}
 use Rattle.clock.specs.Loops.Told.{taken_told}
-use Rattle.clock.proofs.run.Goals.{Else-not-fits, After-words_taken-taken}
+use Rattle.clock.proofs.run.Goals.{Then-fits, After-words_taken-taken}
 use Rattle.clock.proofs.run.Goals as goal
 
-pub returns-then-not-fits : goal.returns-then-not-fits
-returns-then-not-fits c =
+pub returns-else-fits : goal.returns-else-fits
+returns-else-fits c =
     let n = c.args.netlist in
-    record { answered = run_21 n.image.now c.args.state c.args.words.now n.accepted (sym c.fits.ensures ∙ c.if-not-fits.true) }
+    record { answered = run_21 n.image.now c.args.state c.args.words.now n.accepted (sym c.fits.ensures ∙ c.if-fits.false) }
 
-fit : (c : Else-not-fits) → Fitting c.args.netlist.image.now c.args.state
+fit : (c : Then-fits) → Fitting c.args.netlist.image.now c.args.state
 fit c =
     let n = c.args.netlist in
     fitting n.image.now (accepted n.image.now n.accepted) c.args.state (shaped c.args.state _ c.well_formed.1.0)
-    (sym c.fits.ensures ∙ c.if-not-fits.false)
-
-pub words_taken-taken-requires : goal.words_taken-taken-requires
-words_taken-taken-requires c = (fit (goal.at.words_taken-taken-requires c).Else-not-fits).cycled
+    (sym c.fits.ensures ∙ c.if-fits.true)
 
 few : (c : After-words_taken-taken) → c.args.state.cycles ≤ 1000000 →
     let a = c.args in
@@ -36,24 +33,35 @@ few c h =
     let f = taken_few c.nodes.result a.state.cycles a.words.now h in
     (omega (arith, e, f), omega (arith, e, f))
 
-pub overflow_cast-result : goal.overflow_cast-result
-overflow_cast-result c = omega (arith, few (goal.at.overflow_cast-result c).After-words_taken-taken (fit (goal.at.overflow_cast-result c).Else-not-fits).cycled)
+pub words_taken-taken-requires : goal.words_taken-taken-requires
+words_taken-taken-requires c = (fit (goal.at.words_taken-taken-requires c).Then-fits).cycled
+
+pub overflow_cast-ran : goal.overflow_cast-ran
+overflow_cast-ran c = omega (arith, few (goal.at.overflow_cast-ran c).After-words_taken-taken (fit (goal.at.overflow_cast-ran c).Then-fits).cycled)
 
 pub slice_bounds-cycles-end : goal.slice_bounds-cycles-end
 slice_bounds-cycles-end c =
     let t = c.words_taken-taken.result.steps in
-    omega (arith, few (goal.at.slice_bounds-cycles-end c).After-words_taken-taken (fit (goal.at.slice_bounds-cycles-end c).Else-not-fits).cycled, length-take t c.args.words.now)
+    omega (
+      arith,
+      few (goal.at.slice_bounds-cycles-end c).After-words_taken-taken (fit (goal.at.slice_bounds-cycles-end c).Then-fits).cycled,
+      length-take t c.args.words.now,
+    )
 
-pub cycles-last-requires-clause-fitting : goal.cycles-last-requires-clause-fitting
-cycles-last-requires-clause-fitting c = fit (goal.at.cycles-last-requires-clause-fitting c).Else-not-fits
+pub cycles-requires-clause-fitting : goal.cycles-requires-clause-fitting
+cycles-requires-clause-fitting c = fit (goal.at.cycles-requires-clause-fitting c).Then-fits
 
-pub cycles-last-requires-clause-words_bound : goal.cycles-last-requires-clause-words_bound
-cycles-last-requires-clause-words_bound c =
+pub cycles-requires-clause-words_bound : goal.cycles-requires-clause-words_bound
+cycles-requires-clause-words_bound c =
     let t = c.words_taken-taken.result.steps in
-    omega (arith, few (goal.at.cycles-last-requires-clause-words_bound c).After-words_taken-taken (fit (goal.at.cycles-last-requires-clause-words_bound c).Else-not-fits).cycled, length-take t c.args.words.now)
+    omega (
+      arith,
+      few (goal.at.cycles-requires-clause-words_bound c).After-words_taken-taken (fit (goal.at.cycles-requires-clause-words_bound c).Then-fits).cycled,
+      length-take t c.args.words.now,
+    )
 
-pub returns : goal.returns
-returns c =
+pub returns-then-fits : goal.returns-then-fits
+returns-then-fits c =
     let a = c.args in
     let img = a.netlist.image.now in
     let words = a.words.now in
@@ -62,7 +70,7 @@ returns c =
     t.ensures ∙ ap (λ (n : ℕ). taken_from n a.state.cycles words) c.nodes.ensures.value in
     record {
       answered =
-          ap (λ (x : State). record { steps = t.result.steps; number = (taken_told t.result).number; state = x }) c.cycles-last.ensures
+          ap (λ (x : State). record { steps = t.result.steps; number = (taken_told t.result).number; state = x }) c.cycles.ensures
           ∙ ap (λ (u : TakenTold). record { steps = u.steps; number = u.number; state = after img a.state (take u.steps words) }) k
-          ∙ ran_taken img words a.state ∙ run-made img a.state words a.netlist.accepted (sym c.fits.ensures ∙ c.if-not-fits.false);
+          ∙ ran_taken img words a.state ∙ run-made img a.state words a.netlist.accepted (sym c.fits.ensures ∙ c.if-fits.true);
     }
