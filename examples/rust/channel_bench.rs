@@ -47,7 +47,7 @@ pub const CLOSING_LINE_BYTES: usize = 710;
 
 /// Room on the stack that is enough for every call of [`raw`]. The header has each call's. The functions of this module
 /// hand states on by value, which takes some more.
-pub const STACK_BYTES: usize = 327_680;
+pub const STACK_BYTES: usize = 262_144;
 
 /// A kind of node, as its byte in an image: `Kind::Sum as u8`.
 #[derive(Clone, Copy, Debug, PartialEq, Eq)]
