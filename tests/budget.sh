@@ -7,12 +7,12 @@
 set -eu
 
 # Seconds of processor time: of a crate, its proof and its edits; of a test program; of all crates. More have capi,
-# which has the calls for C; clock, whose cycle is one function for its speed; trace, a program that each edit links anew; and
-# test_engine, which has the cases of three crates.
+# which has the calls for C; clock, whose cycle is one function for its speed; and test_engine, which has the cases of three
+# crates.
 each=200
 program=60
 all=4000
-more=' capi:240 clock:240 trace:220 test_engine:100 '
+more=' capi:240 clock:240 test_engine:100 '
 
 # watch FILE: a line for each check that runs, three times a second: what tells it from others, its crate, what it is
 # for, and its hundredths of a second so far. An edit is checked over what the crate's own check left.

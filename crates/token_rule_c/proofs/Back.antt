@@ -28,7 +28,9 @@ stored_over s t rest =
     (ap (λ (n : ℕ). drop n (state_bytes s ++ rest)) (sym (state_long s)) ∙ drop-append_seam (state_bytes s) rest)
 
 -- the bytes of one of two states
-bytes_of_choice : (test : Bool) (a b : State) (rest : List ℕ) → (state_bytes a ++ rest if test else state_bytes b ++ rest) ≡ state_bytes (a if test else b) ++ rest
+bytes_of_choice :
+    (test : Bool) (a b : State) (rest : List ℕ)
+    → (state_bytes a ++ rest if test else state_bytes b ++ rest) ≡ state_bytes (a if test else b) ++ rest
 bytes_of_choice true a b rest = refl
 bytes_of_choice false a b rest = refl
 

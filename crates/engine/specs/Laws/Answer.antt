@@ -116,7 +116,8 @@ module _ (img : List ℕ) (s : State) (word : ℕ) where
 
   numbered :
       (j : ℕ) (z f d w : Bool) (last : ℕ) → eqb j 0 ≡ z
-      → ((told_by j z f d w).number if not (eqb (told_by j z f d w).number 0) else last) ≡ (j if not z else 21 if not f else 22 if d else 12 if w else last)
+      → ((told_by j z f d w).number if not (eqb (told_by j z f d w).number 0) else last) ≡
+      (j if not z else 21 if not f else 22 if d else 12 if w else last)
   numbered j true false d w last e = refl
   numbered j true true true w last e = refl
   numbered j true true false true last e = refl
@@ -146,7 +147,9 @@ module _ (img : List ℕ) (s : State) (word : ℕ) where
 
     -- a step whose run is refused answers that number
     pub run-none : (number : ℕ) → number ≡ one.number → (number ≡ 0 → ⊥) → number ≡ number_of_step img s word letters values
-    run-none number e n = e ∙ ap (λ (b : Bool). one.number if not b else shown_number img s letters values) (sym (ap (λ k. eqb k 0) (sym e) ∙ ne_eqb number 0 n)) ∙ number-run
+    run-none number e n =
+        let f : eqb one.number 0 ≡ false = ap (λ k. eqb k 0) (sym e) ∙ ne_eqb number 0 n in
+        e ∙ ap (λ (b : Bool). one.number if not b else shown_number img s letters values) (sym f) ∙ number-run
 
     -- a step whose run is not refused answers what is shown, and leaves it
     pub run-shown :

@@ -1,5 +1,5 @@
--- What calls answer fits, "in a fresh state and after every accepted step, and both states fit the image as number 21 has it": from every state, whether
--- or not calls led to it. `Shaped` is what the declared type says of every state. Assumes nothing.
+-- What calls answer fits: "in a fresh state and after every accepted step, and both states fit the image as number 21 has it". From every state,
+-- whether or not calls led to it. `Shaped` is what the declared type says of every state. Assumes nothing.
 use Rattle.std.specs.Prelude.{true, List, ◌≡◌, ◌≢◌, ℕ, ◌+◌, ℤ, length}
 use Rattle.std.proofs.Common.{sym, ap, ◌∙◌, arith, add-zero, ne_eqb}
 use Rattle.std.proofs.Math.Decide.{ℕ_discrete}

@@ -1,4 +1,5 @@
--- A state that fits its image, and whose values are signed numbers of 32 bits, is one of the declared type: so its bytes are read back. Assumes nothing.
+-- A state that fits its image, and whose values are signed numbers of 32 bits, is one of the declared type: so its bytes are read back. Assumes
+-- nothing.
 use Rattle.std.specs.Prelude.{List, [], ◌∷◌, ◌++◌, ◌≡◌, refl, ℕ, zero, suc, ◌-◌, ◌*◌, ◌/◌, ◌%◌, ◌^◌, ◌<◌, ◌≤◌, ℤ, pos, length, get_or, replicate}
 use Rattle.std.specs.List.{All}
 use Rattle.std.specs.Int.{w32}
@@ -119,7 +120,8 @@ module _ (img : List ℕ) (a : Accepted img) (s : State) (fit : Fitting img s) (
       ⊎_elim
       (λ (l : n < nodes img). ((r.shown n l).sfits, omega (arith, fit.fired n l, fit.cycled)))
       (λ (l : nodes img ≤ n).
-      let e : node_at s n ≡ no_node = unfold node_at in (at_place (λ x. get_or x.nodes n no_node) ∙ padded_past (node_at s) (nodes img) 64 n no_node no_node l h) in
+      let e : node_at s n ≡ no_node =
+      unfold node_at in (at_place (λ x. get_or x.nodes n no_node) ∙ padded_past (node_at s) (nodes img) 64 n no_node no_node l h) in
       (rw (ap (λ (x : Node). x.value) e) zero_fits.sfits, omega (arith, ap (λ (x : Node). x.firings) e)))
       (lt-or-ge n (nodes img))
 
