@@ -17,6 +17,13 @@ use row::{Station, STATION_BYTES};
 use std::hint::black_box;
 use std::time::{Duration, Instant};
 
+// The bytes that benchmark.sh puts before the library's code. They are kept because `main` names them.
+std::arch::global_asm!(".text", ".globl before_the_library", "before_the_library:", concat!(".skip ", env!("PAD"), ", 0x90"), "ret");
+
+extern "C" {
+    fn before_the_library();
+}
+
 const ROUNDS: usize = 9;
 const IMAGES: usize = 100_000;
 const CYCLES: usize = 100_000;
@@ -33,6 +40,7 @@ struct Line<'a> {
 }
 
 fn main() {
+    black_box(before_the_library as unsafe extern "C" fn());
     let mut arguments = std::env::args().skip(1);
     let mut image = || std::fs::read(arguments.next().expect("the path of an image")).expect("an image");
     let (netlist, strict_netlist) = (image(), image());
