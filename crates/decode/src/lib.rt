@@ -86,8 +86,8 @@ fn queues_in(bytes: &[u8]) -> [Queue; 96]
     array::from_fn(|c| queue_in(bytes, 7524 + 33 * c))
 }
 
-// What fewer bytes than a state has are read as: a state that fits no image. An `Option` would be no plainer:
-// each call would say once more which numbers come before 21.
+// What fewer bytes than a state has are read as: a state that fits no image. An `Option` would be no
+// plainer: each call would say once more which numbers come before 21.
 fn no_state() -> State
     ensures { result ≡ no_state }
 {

@@ -8,7 +8,6 @@
 ghost use Rattle.std.specs.Prelude.{◌≡◌, IfOk};
 ghost use Rattle.refusal.specs.Number.{number_of};
 ghost use Rattle.state.specs.Told.{told};
-ghost use Rattle.fitting.specs.Fitting.{Fitting};
 ghost use Rattle.cycle.specs.Run.{RunDone};
 ghost use Rattle.clock.specs.Told.{run_told};
 ghost use Rattle.engine.specs.Answer.{state_number, StepDone};
@@ -19,17 +18,14 @@ use refusal::Refusal;
 use state::{Refused, State};
 
 // Returns the netlist of an image, given a state that fits it. Refused by 1 to 11, then by 21 where the
-// state does not fit. The state comes by value: behind a reference an array's length is known only where
-// a part of it is taken. Image and state are two parameters here, as C hands them over, and that they
-// fit is asked of no caller. The clauses `number` and `same` tie the netlist to the image that was
-// handed in.
-pub fn fitted<'a>(image: &'a [u8], state: State) -> Result<Netlist<'a>, Refusal>
-    ensures number { number_of result ≡ state_number image.entry.now state }
+// state does not fit. Image and state are two parameters here, as C hands them over. The clauses
+// `number` and `same` tie the netlist to the image that was handed in.
+pub fn fitted<'a>(image: &'a [u8], state: &State) -> Result<Netlist<'a>, Refusal>
+    ensures number { number_of result ≡ state_number image.entry.now state.now }
     ensures same { IfOk result (λ netlist. netlist.image ≡ image.entry) }
-    ensures fitting { IfOk result (λ netlist. Fitting netlist.image.now state) }
 {
     let netlist = Netlist::judged(image)?;
-    if !fitting::fits(netlist, &state) {
+    if !fitting::fits(netlist, state) {
         return Err(Refusal::Misfit);
     }
     Ok(netlist)

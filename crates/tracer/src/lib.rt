@@ -78,7 +78,7 @@ pub fn closing_line(image: &[u8], state: State, out: &mut [u8]) -> Result<usize,
     ensures closing_done { ClosingDone image.now state out.old (write_told result) out.new }
     ensures number_value { 710 ≤ length out.old → number_of result ≡ state_number image.now state }
 {
-    let netlist = engine::fitted(image, state)?;
+    let netlist = engine::fitted(image, &state)?;
     let nodes = netlist.nodes() as usize;
     let firings = firings_of(state);
     text::closing_line(&firings[..nodes], out)

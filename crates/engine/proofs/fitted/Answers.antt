@@ -1,10 +1,7 @@
 -- `engine::fitted` meets its contract. Assumes nothing.
 use Rattle.std.proofs.Common.{rules, ◌≡◌, sym, ap, ◌∙◌, arith}
-use Rattle.verdict.specs.Laws.Accepted.{accepted}
 use Rattle.refusal.specs.Laws.Number.{number_positive}
 use Rattle.fitting.specs.Fits.{fits}
-use Rattle.fitting.specs.Laws.Fits.{fitting}
-use Rattle.fitting.proofs.Shape.{shaped}
 use Rattle.engine.specs.Laws.Answer.{state-judge, state_21, state_0}
 use Rattle.engine.proofs.fitted.Goals.{After-fits}
 use Rattle.engine.proofs.fitted.Goals as goal
@@ -14,27 +11,22 @@ returns-in_err-netlist-clause-number c =
     let r = c.in_err-netlist.field-0.0 in
     let e = c.in_err-netlist.ensures.number in
     let p = number_positive r in
-    let h = e ∙ state-judge c.args.image.now c.args.state (λ z. absurd (omega (arith, e, z, p))) in
+    let h = e ∙ state-judge c.args.image.now c.args.state.now (λ z. absurd (omega (arith, e, z, p))) in
     rw (sym h) (search rules)
 
 -- the netlist is the image's
 same : (c : After-fits) → c.in_ok-netlist.netlist.image.now ≡ c.args.image.now
 same c = ap (λ r. r.now) c.in_ok-netlist.ensures.same
 
-fit : (c : After-fits) → c.fits.result ≡ fits c.args.image.now c.args.state
-fit c = c.fits.ensures ∙ ap (λ i. fits i c.args.state) (same c)
+fit : (c : After-fits) → c.fits.result ≡ fits c.args.image.now c.args.state.now
+fit c = c.fits.ensures ∙ ap (λ i. fits i c.args.state.now) (same c)
 
 pub returns-then-not-fits-clause-number : goal.returns-then-not-fits-clause-number
 returns-then-not-fits-clause-number c =
-    state_21 c.args.image.now c.args.state (sym c.in_ok-netlist.ensures.number)
+    state_21 c.args.image.now c.args.state.now (sym c.in_ok-netlist.ensures.number)
     (sym (fit (goal.at.returns-then-not-fits-clause-number c).After-fits) ∙ c.if-not-fits.true)
 
 pub returns-clause-number : goal.returns-clause-number
 returns-clause-number c =
-    state_0 c.args.image.now c.args.state (sym c.in_ok-netlist.ensures.number)
+    state_0 c.args.image.now c.args.state.now (sym c.in_ok-netlist.ensures.number)
     (sym (fit (goal.at.returns-clause-number c).After-fits) ∙ c.if-not-fits.false)
-
-pub returns-clause-fitting : goal.returns-clause-fitting
-returns-clause-fitting c =
-    let n = c.in_ok-netlist.netlist in
-    fitting n.image.now (accepted n.image.now n.accepted) c.args.state (shaped c.args.state _ c.well_formed.1.0) (sym c.fits.ensures ∙ c.if-not-fits.false)
