@@ -20,8 +20,9 @@ ghost use Rattle.std.specs.Prelude.{◌≡◌, suc, ◌+◌, ◌<◌, ◌≤◌,
 ghost use Rattle.image.specs.Image.{channels};
 ghost use Rattle.pearl.specs.Kind.{kind_byte};
 ghost use Rattle.pearl.specs.Next.{next_value};
-ghost use Rattle.cycle.specs.Cycle.{stalled, after};
-ghost use Rattle.cycle.specs.Run.{sets_above, RunDone};
+ghost use Rattle.cycle.specs.Cycle.{after};
+ghost use Rattle.cycle.specs.Run.{RunDone};
+ghost use Rattle.cycle.specs.Word.{stalled, sets_above};
 ghost use Rattle.fitting.specs.Fitting.{Fitting};
 ghost use Rattle.cycle.specs.Loops.Parts.{wires_below};
 ghost use Rattle.cycle.specs.Loops.Taken.{taken_from};

@@ -1,5 +1,5 @@
 -- One latency-insensitive cycle of the whole netlist, "from the state at the start of the cycle".
-use Rattle.std.specs.Prelude.{is_some, unwrap_or, pos, Bool, true, not, ◌&&◌, List, [], ◌∷◌, ℕ, suc, ◌/◌, ◌%◌, ◌^◌, eqb, ℤ}
+use Rattle.std.specs.Prelude.{is_some, unwrap_or, pos, Bool, true, not, ◌&&◌, List, [], ◌∷◌, ℕ, suc, eqb, ℤ}
 use Rattle.laws.specs.Below.{all_below, any_below}
 use Rattle.laws.specs.Choice.{◌if◌else◌}
 use Rattle.laws.specs.Lists.{holds}
@@ -12,10 +12,7 @@ use Rattle.shell.specs.Channel.{Channel, blocked, input, stop_above, channel_rea
 use Rattle.state.specs.declared.Node.{Node}
 use Rattle.state.specs.declared.State.{State}
 use Rattle.state.specs.State.{node_at, value_at, firings_at, channel_in, state_of}
-
--- "A stall word has 64 bits; bit i stalls node i."
-unfoldable pub stalled : ℕ → ℕ → Bool
-stalled word n = eqb (word / 2 ^ n % 2) 1
+use Rattle.cycle.specs.Word.{stalled}
 
 module _ (img : List ℕ) (s : State) where
   -- what channel c brings to its to node: the oldest token there, valid if the input is ready

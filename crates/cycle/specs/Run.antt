@@ -1,15 +1,12 @@
 -- The run: "The run takes words in order and stops at the first refusal."
-use Rattle.std.specs.Prelude.{Bool, not, List, [], ◌∷◌, ◌≡◌, ℕ, suc, ◌/◌, ◌^◌, eqb}
+use Rattle.std.specs.Prelude.{not, List, [], ◌∷◌, ◌≡◌, ℕ, suc, eqb}
 use Rattle.laws.specs.Choice.{◌if◌else◌}
 use Rattle.image.specs.Image.{nodes}
 use Rattle.verdict.specs.Judge.{judge}
 use Rattle.state.specs.declared.State.{State}
 use Rattle.fitting.specs.Fits.{fits}
+use Rattle.cycle.specs.Word.{sets_above}
 use Rattle.cycle.specs.Cycle.{state_after}
-
--- 12, "stall word sets a bit at or above N": the word's bits from n on are not all 0
-unfoldable pub sets_above : ℕ → ℕ → Bool
-sets_above n word = not (eqb (word / 2 ^ n) 0)
 
 -- what a run returns: the steps done, its number, 0 if it came to the end of its words, and the state after those steps
 pub record RunTold : Type 0 where

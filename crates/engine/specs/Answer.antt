@@ -6,7 +6,7 @@ use Rattle.verdict.specs.Judge.{judge}
 use Rattle.state.specs.declared.State.{State}
 use Rattle.state.specs.Told.{Told}
 use Rattle.cycle.specs.Cycle.{state_after, letters_of, values_of}
-use Rattle.cycle.specs.Run.{sets_above}
+use Rattle.cycle.specs.Word.{sets_above}
 use Rattle.fitting.specs.Fits.{fits}
 
 -- the number that refuses an image or a state, whatever the call: the judge's, then 21

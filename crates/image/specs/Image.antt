@@ -47,6 +47,10 @@ stations img c = get_or img (depths img c) 0
 unfoldable pub depth : List ℕ → ℕ → ℕ
 depth img c = get_or img (depths img c + 1) 0
 
+-- "The length is 2 + 5N + 5C.": how many bytes an image has by its own N and C
+abbrev pub length_due : List ℕ → ℕ
+length_due img = 2 + 5 * nodes img + 5 * channels img
+
 -- how many inputs kind k has, the column "inputs" of the table of kinds: count 0; hold, total, negate and halve 1; sum, difference and larger 2;
 -- choose 3. Place 0 is no kind.
 unfoldable pub inputs : ℕ → ℕ

@@ -17,7 +17,8 @@ use Rattle.shell.specs.Queue.{waiting, queue_of, full, pushed, popped, queue_aft
 use Rattle.shell.specs.Channel.{Channel, arriving, input, stop_below, stop_above, channel_reading, channel_after}
 use Rattle.state.specs.State.{node_at, value_at, state_of}
 use Rattle.state.specs.Fresh.{fresh_state}
-use Rattle.cycle.specs.Cycle.{stalled, all_ready, any_blocked, fires, node_after, state_after, after}
+use Rattle.cycle.specs.Cycle.{all_ready, any_blocked, fires, node_after, state_after, after}
+use Rattle.cycle.specs.Word.{stalled}
 use Rattle.starred.specs.Edges.{edges, given}
 
 -- a link on which the token v is offered

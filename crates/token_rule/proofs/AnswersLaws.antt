@@ -16,7 +16,8 @@ use Rattle.cycle.specs.Cycle.{state_after, letters_of, values_of, after}
 use Rattle.cycle.specs.Laws.Cycle.{cycles-next}
 use Rattle.fitting.specs.Fitting.{Fitting}
 use Rattle.fitting.specs.Laws.Fits.{fits-fitting}
-use Rattle.cycle.specs.Run.{sets_above, RunTold, step_more, ran_from, run_answer}
+use Rattle.cycle.specs.Run.{RunTold, step_more, ran_from, run_answer}
+use Rattle.cycle.specs.Word.{sets_above}
 use Rattle.engine.specs.Answer.{step_number, number_of_step, step_answer, letters_written, values_written}
 use Rattle.token_rule.specs.Calls.{Step, Run, step, run, Done, goes, roomy, makes, run_cycles}
 

@@ -13,7 +13,7 @@ use Rattle.verdict.specs.Accepted.{Accepted}
 use Rattle.state.specs.declared.State.{State}
 use Rattle.cycle.specs.Cycle.{state_after, after}
 use Rattle.fitting.specs.Fitting.{Fitting}
-use Rattle.cycle.specs.Run.{sets_above}
+use Rattle.cycle.specs.Word.{sets_above}
 use Rattle.token_rule.proofs.CyclesLaws.{after-append, cycles-after, fitting-after}
 use Rattle.token_rule.specs.Calls.{Call, step, run, returned, Done, Chain, last_state, goes, roomy, makes, run_cycles, cycles_in, cycles_of}
 use Rattle.token_rule.proofs.AnswersLaws.{step-done, run-done}

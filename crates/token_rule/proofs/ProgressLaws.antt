@@ -12,7 +12,8 @@ use Rattle.state.specs.State.{firings_at}
 use Rattle.fitting.specs.Fitting.{Steady}
 use Rattle.cycle.specs.Laws.Counters.{entered}
 use Rattle.cycle.specs.Laws.Counting.{entered_source, entered_taken, limit_taken, entered-next, enabled-fires}
-use Rattle.cycle.specs.Cycle.{stalled, fires, state_after}
+use Rattle.cycle.specs.Cycle.{fires, state_after}
+use Rattle.cycle.specs.Word.{stalled}
 use Rattle.cycle.specs.Laws.Cycle.{firings_next}
 use Rattle.cycle.specs.Laws.Kept.{steady-next}
 use Rattle.token_rule.specs.Cycles.{fired_in}

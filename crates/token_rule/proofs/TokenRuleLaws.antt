@@ -15,7 +15,7 @@ use Rattle.state.specs.Fresh.{fresh_state, fresh_answer, FreshDone}
 use Rattle.fitting.specs.Fitting.{Fitting}
 use Rattle.state.specs.Laws.Fresh.{fresh-cycles, fresh_firings}
 use Rattle.fitting.specs.Laws.Fitting.{fitting-fresh}
-use Rattle.cycle.specs.Run.{sets_above}
+use Rattle.cycle.specs.Word.{sets_above}
 use Rattle.cycle.specs.Cycle.{after}
 use Rattle.token_rule.specs.Cycles.{fired_in}
 use Rattle.token_rule.proofs.CyclesLaws.{cycles-after, firings_after, fitting-after, sound-after}

@@ -5,7 +5,8 @@ use Rattle.laws.specs.Lists.{one_if}
 use Rattle.image.specs.Image.{nodes, channels}
 use Rattle.state.specs.declared.State.{State}
 use Rattle.state.specs.Told.{Told}
-use Rattle.cycle.specs.Run.{sets_above, RunTold}
+use Rattle.cycle.specs.Run.{RunTold}
+use Rattle.cycle.specs.Word.{sets_above}
 use Rattle.cycle.specs.Run.{RunDone}
 use Rattle.engine.specs.Answer.{StepDone}
 

@@ -5,7 +5,7 @@ use Rattle.laws.specs.Below.{most_below}
 use Rattle.image.specs.Image.{nodes, channels, stations}
 use Rattle.state.specs.declared.State.{State}
 use Rattle.state.specs.State.{firings_at}
-use Rattle.cycle.specs.Cycle.{stalled}
+use Rattle.cycle.specs.Word.{stalled}
 
 -- "R is the largest station count on any channel, or 0 without channels."
 unfoldable pub most_stations : List ℕ → ℕ

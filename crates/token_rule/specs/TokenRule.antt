@@ -8,7 +8,7 @@ use Rattle.strict.specs.Strict.{strict, stream}
 use Rattle.state.specs.declared.State.{State}
 use Rattle.state.specs.State.{value_at, firings_at}
 use Rattle.cycle.specs.Cycle.{letters_of, values_of, after}
-use Rattle.cycle.specs.Run.{sets_above}
+use Rattle.cycle.specs.Word.{sets_above}
 use Rattle.token_rule.specs.Cycles.{fired_in, arrivals}
 use Rattle.token_rule.specs.Calls.{Step, Run, Call, step, run, number_of, last_state, makes, run_cycles, cycles_in, cycles_of}
 use Rattle.token_rule.specs.Progress.{most_stations, Awake}

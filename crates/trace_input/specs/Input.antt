@@ -5,7 +5,7 @@ use Rattle.laws.specs.Choice.{◌if◌else◌}
 use Rattle.laws.specs.Table.{table}
 use Rattle.image.specs.Image.{nodes, channels, four_bytes}
 use Rattle.verdict.specs.Judge.{judge}
-use Rattle.cycle.specs.Run.{sets_above}
+use Rattle.cycle.specs.Word.{sets_above}
 
 -- how many bytes the image of an input has by its own N and C
 unfoldable pub image_due : List ℕ → ℕ

@@ -20,7 +20,8 @@ use Rattle.shell.specs.Channel.{blocked, arriving, input, stop_below, stop_above
 use Rattle.state.specs.State.{node_at, pending_at, station_at, queue_at, channel_in, state_of}
 use Rattle.state.specs.Fresh.{fresh_state}
 use Rattle.fitting.specs.Fits.{fits, cycles_fit}
-use Rattle.cycle.specs.Cycle.{stalled, input_at, blocked_at, all_ready, any_blocked, fires, node_after, channel_after_at, state_after, after}
+use Rattle.cycle.specs.Cycle.{input_at, blocked_at, all_ready, any_blocked, fires, node_after, channel_after_at, state_after, after}
+use Rattle.cycle.specs.Word.{stalled}
 use Rattle.worked_examples.specs.Engine.{stationed, stalls}
 use Rattle.engine.specs.Answer.{state_number}
 use Rattle.bench.specs.Bench.{bench_number}

@@ -27,11 +27,12 @@ use Rattle.shell.specs.Channel.{blocked, arriving, input, stop_below, stop_above
 use Rattle.state.specs.declared.State.{State}
 use Rattle.state.specs.State.{node_at, firings_at, pending_at, station_at, queue_at, channel_in, state_of}
 use Rattle.state.specs.Fresh.{fresh_state, fresh_answer, zeros}
-use Rattle.cycle.specs.Cycle.{stalled, input_at, blocked_at, reading_at, all_ready, any_blocked, fires, node_after, channel_after_at}
+use Rattle.cycle.specs.Cycle.{input_at, blocked_at, reading_at, all_ready, any_blocked, fires, node_after, channel_after_at}
 use Rattle.cycle.specs.Cycle.{state_after, after, letters_of, values_of}
 use Rattle.fitting.specs.Fits.{cycles_fit, firings_fit, pending_fit, stations_fit, counts_fit, node_clear, pending_clear, station_clear, queue_clear}
 use Rattle.fitting.specs.Fits.{unused_clear, balanced, fits}
-use Rattle.cycle.specs.Run.{sets_above, step_more, ran_from, run_answer}
+use Rattle.cycle.specs.Run.{step_more, ran_from, run_answer}
+use Rattle.cycle.specs.Word.{stalled, sets_above}
 use Rattle.readings.specs.Shown.{shown_number, letters_shown, values_shown}
 use Rattle.engine.specs.Answer.{step_number, number_of_step, step_answer, letters_written, values_written}
 use Rattle.engine.specs.Laws.Answer.{step-none, step-made}

@@ -16,8 +16,8 @@ use Rattle.shell.specs.Queue.{waiting, queue_of, full}
 use Rattle.shell.specs.Channel.{blocked, arriving, input, stop_below, stop_above, channel_reading, channel_after}
 use Rattle.state.specs.State.{node_at, pending_at, station_at, queue_at, channel_in, state_of}
 use Rattle.state.specs.Fresh.{fresh_state, zeros}
-use Rattle.cycle.specs.Cycle.{stalled, input_at, blocked_at, reading_at, all_ready, any_blocked, fires, node_after, channel_after_at, state_after}
-use Rattle.cycle.specs.Run.{sets_above}
+use Rattle.cycle.specs.Cycle.{input_at, blocked_at, reading_at, all_ready, any_blocked, fires, node_after, channel_after_at, state_after}
+use Rattle.cycle.specs.Word.{stalled, sets_above}
 use Rattle.token_rule.specs.Cycles.{fired_in, arrivals}
 use Rattle.token_rule.specs.Calls.{Call, step, run, goes, roomy, makes, run_cycles, cycles_in, cycles_of}
 use Rattle.token_rule.specs.Progress.{most_stations, Awake}

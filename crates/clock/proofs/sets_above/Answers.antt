@@ -4,7 +4,7 @@ use Rattle.std.specs.Prelude.{Option, Some, None, Bool, false, ℕ, not, eqb}
 use Rattle.std.specs.Option.{SomeIff, MatchOption}
 use native.Mathlib.Nat.{div-eq_of_lt, lt_of_lt_of_le}
 use lib.Pow.{pow_mono}
-use Rattle.cycle.specs.Run.{sets_above}
+use Rattle.cycle.specs.Word.{sets_above}
 use Rattle.clock.proofs.sets_above.Goals as goal
 
 -- a word has no bit from 64 on

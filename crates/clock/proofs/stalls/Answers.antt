@@ -1,6 +1,6 @@
 -- `clock::stalls` meets its contract. Assumes nothing.
 use mathlib.Core.Path.{refl}
-use Rattle.cycle.specs.Cycle.{stalled}
+use Rattle.cycle.specs.Word.{stalled}
 use Rattle.clock.proofs.stalls.Goals as goal
 
 pub returns : goal.returns

@@ -7,7 +7,7 @@ use Rattle.image.specs.Image.{channels, from, to, stations, depth}
 use Rattle.relay.specs.Row.{contents}
 use Rattle.state.specs.declared.State.{State}
 use Rattle.state.specs.State.{firings_at, channel_in}
-use Rattle.cycle.specs.Cycle.{stalled}
+use Rattle.cycle.specs.Word.{stalled}
 
 module _ (img : List ℕ) (s : State) where
   -- how many tokens have entered place j of channel c. Place 0: those that were made, the parameter and one at each firing of the from node. A place

@@ -23,7 +23,8 @@ use Rattle.state.specs.declared.Node.{Node}
 use Rattle.state.specs.declared.State.{State}
 use Rattle.state.specs.State.{node_at, value_at, firings_at, pending_at, channel_in, state_of}
 use Rattle.state.specs.Laws.State.{length-row, node_of, channel_of}
-use Rattle.cycle.specs.Cycle.{stalled, input_at, blocked_at, all_ready, any_blocked, fires, node_after, channel_after_at, state_after}
+use Rattle.cycle.specs.Cycle.{input_at, blocked_at, all_ready, any_blocked, fires, node_after, channel_after_at, state_after}
+use Rattle.cycle.specs.Word.{stalled}
 
 -- the value of a chosen node, where the old node's value is chosen once more
 kept_value : (b : Bool) (new old : Node) → let node = new if b else old in (node.value if b else old.value) ≡ node.value

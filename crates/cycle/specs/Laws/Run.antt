@@ -15,7 +15,8 @@ use Rattle.state.specs.State.{state_of}
 use Rattle.cycle.specs.Cycle.{state_after, after}
 use Rattle.cycle.specs.Laws.Cycle.{cycles-next}
 use Rattle.fitting.specs.Fits.{fits}
-use Rattle.cycle.specs.Run.{sets_above, RunTold, step_more, ran_from, run_answer}
+use Rattle.cycle.specs.Run.{RunTold, step_more, ran_from, run_answer}
+use Rattle.cycle.specs.Word.{sets_above}
 use Rattle.cycle.specs.Loops.Taken.{TakenTold, take_more, taken_from, taken_after}
 
 -- ---- the run: the loop over its words, from the first on

@@ -38,7 +38,8 @@ use Rattle.shell.specs.Laws.Channel.{arrived_few}
 use Rattle.state.specs.declared.State.{State}
 use Rattle.state.specs.State.{no_node, node_at, value_at, pending_at, station_at, queue_at, channel_in, state_of}
 use Rattle.state.specs.Laws.State.{place_channel, place_station, length-row, row_at, row_past, arriving_few}
-use Rattle.cycle.specs.Cycle.{stalled, input_at, blocked_at, all_ready, any_blocked, fires, node_after, channel_after_at, state_after}
+use Rattle.cycle.specs.Cycle.{input_at, blocked_at, all_ready, any_blocked, fires, node_after, channel_after_at, state_after}
+use Rattle.cycle.specs.Word.{stalled}
 use Rattle.cycle.specs.Laws.Cycle.{length-next, source_next}
 use Rattle.fitting.specs.Fitting.{Fitting}
 use Rattle.fitting.specs.Laws.Fitting.{stations_long, station_written, queue_written}

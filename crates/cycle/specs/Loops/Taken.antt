@@ -1,7 +1,7 @@
 -- Which of its words a run takes, found out before it makes a cycle.
 use Rattle.std.specs.Prelude.{List, [], ◌∷◌, ℕ, suc, ◌+◌, eqb, drop}
 use Rattle.laws.specs.Choice.{◌if◌else◌}
-use Rattle.cycle.specs.Run.{sets_above}
+use Rattle.cycle.specs.Word.{sets_above}
 
 -- how many words a run takes, and the number that ends them, 0 if none does
 pub record TakenTold : Type 0 where

@@ -36,7 +36,8 @@ use Rattle.shell.specs.Channel.{blocked, pending_after, arriving, stop_below, ch
 use Rattle.state.specs.declared.Node.{Node}
 use Rattle.state.specs.declared.State.{State}
 use Rattle.state.specs.State.{no_node, no_queue, node_at, pending_at, station_at, queue_at, channel_in}
-use Rattle.cycle.specs.Cycle.{stalled, input_at, blocked_at, reading_at, fires, node_after, state_after, after}
+use Rattle.cycle.specs.Cycle.{input_at, blocked_at, reading_at, fires, node_after, state_after, after}
+use Rattle.cycle.specs.Word.{stalled}
 use Rattle.fitting.specs.Fitting.{Fitting}
 use Rattle.fitting.specs.Laws.Fitting.{nodes_long, pending_long, stations_long, queues_long, queue_count}
 use Rattle.cycle.specs.Loops.Parts.{starved_below, brought_below, blocked_below, fires_below, nodes_below}

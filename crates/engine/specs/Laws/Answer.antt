@@ -15,7 +15,8 @@ use Rattle.image.specs.Image.{nodes, channels}
 use Rattle.verdict.specs.Judge.{judge}
 use Rattle.state.specs.declared.State.{State}
 use Rattle.cycle.specs.Cycle.{state_after, after, letters_of, values_of}
-use Rattle.cycle.specs.Run.{sets_above, RunTold, step_more, ran_from, run_answer}
+use Rattle.cycle.specs.Run.{RunTold, step_more, ran_from, run_answer}
+use Rattle.cycle.specs.Word.{sets_above}
 use Rattle.cycle.specs.Loops.Taken.{taken_from}
 use Rattle.cycle.specs.Laws.Run.{run-made, ran_taken}
 use Rattle.fitting.specs.Fits.{fits}

@@ -1,7 +1,7 @@
 -- Laws of choices between numbers. Assumes nothing.
-use Rattle.std.specs.Prelude.{Bool, true, false, not, ◌≡◌, refl, ℕ, zero, suc, ◌≤◌, eqb}
+use Rattle.std.specs.Prelude.{Bool, true, false, ◌≡◌, refl, ℕ, zero, suc, ◌≤◌}
 use Rattle.std.proofs.Common.{arith, ne_eqb}
-use Rattle.laws.specs.Choice.{◌if◌else◌}
+use Rattle.laws.specs.Choice.{◌if◌else◌, ◌then◌}
 
 -- a test counted as 1 or as 0 is at most 1
 pub one_few : (b : Bool) → (1 if b else 0) ≤ 1
@@ -15,6 +15,6 @@ past k later true e = absurd (omega arith)
 past k later false e = (refl, e)
 
 -- where a chain that begins with the number of another chain answers 0, that number is 0, and the rest of the chain answers 0
-pub past_number : (number later : ℕ) → (number if not (eqb number 0) else later) ≡ 0 → (number ≡ 0) × (later ≡ 0)
+pub past_number : (number later : ℕ) → (number then later) ≡ 0 → (number ≡ 0) × (later ≡ 0)
 past_number zero later e = (refl, e)
 past_number (suc k) later e = let h : suc k ≡ 0 = rw (ne_eqb (suc k) 0 (λ q. omega arith)) at e in absurd (omega arith)

@@ -3,7 +3,7 @@ use Rattle.std.proofs.Common.{◌∙◌, get_or, refl, ℕ, Bool, arith, rules}
 use Rattle.std.proofs.lemmas.Iterator.{YieldsList-from_range}
 use Rattle.std.proofs.lemmas.Iterator.Search.{any_from_yields_List}
 use Rattle.laws.specs.Laws.Below.{any_range}
-use Rattle.cycle.specs.Run.{sets_above}
+use Rattle.cycle.specs.Word.{sets_above}
 use Rattle.image.specs.Image.{nodes}
 use Rattle.trace_input.specs.Input.{words_of}
 use Rattle.trace_input.specs.Laws.Input.{above_read}

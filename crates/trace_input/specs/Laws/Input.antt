@@ -19,7 +19,7 @@ use Rattle.laws.specs.Laws.Table.{length-table, table_at}
 use Rattle.image.specs.Image.{nodes, channels, four_bytes}
 use Rattle.verdict.specs.Judge.{judge}
 use Rattle.verdict.specs.Laws.Accepted.{accepted}
-use Rattle.cycle.specs.Run.{sets_above}
+use Rattle.cycle.specs.Word.{sets_above}
 use Rattle.trace_input.specs.Input.{image_due, image_of, word_at, word_count, words_of, above_at, any_above, number_from, input_number}
 
 -- ---- the image
