@@ -4,7 +4,7 @@
 
 ghost use Rattle.std.specs.Prelude.{◌≡◌, get_or};
 ghost use Rattle.laws.specs.Signed.{signed};
-ghost use Rattle.image.specs.Image.{nodes, channels, kind, four_bytes};
+ghost use Rattle.image.specs.Image.{nodes, channels, kind, four_bytes, length_due};
 ghost use Rattle.image.specs.Readers.{core_at, wire_at};
 
 // A node's fields. The kind is a number: 1 to 9 in an accepted image, any byte in another.
@@ -46,6 +46,13 @@ pub fn channels(image: &[u8]) -> u8
     ensures { result ≡ channels image.now }
 {
     byte_at(image, 1)
+}
+
+// Returns how many bytes an image has by its own N and C.
+pub fn length_due(image: &[u8]) -> usize
+    ensures { result ≡ length_due image.now }
+{
+    2 + 5 * nodes(image) as usize + 5 * channels(image) as usize
 }
 
 // Returns the number of node n's kind, 0 past the image's end.
