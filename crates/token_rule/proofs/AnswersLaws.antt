@@ -1,8 +1,8 @@
 -- What a step and a run answered that were handed a state that fits, in the words of the cycles that they make. Assumes nothing.
-use Rattle.std.specs.Prelude.{Bool, ◌&&◌, ◌||◌, List, [], ◌∷◌, ◌++◌, ℕ, suc, ◌+◌, ◌<◌, ◌≤◌, leb, ltb, length, drop}
+use Rattle.std.specs.Prelude.{Bool, ◌&&◌, ◌||◌, List, [], ◌∷◌, ◌++◌, ◌≢◌, ℕ, suc, ◌+◌, ◌<◌, ◌≤◌, leb, ltb, length, drop}
 use Rattle.std.proofs.Math.Bool.{true, false, not}
-use Rattle.std.proofs.Common.{⊎_elim, ◌∙◌, add-zero, add-suc, suc-add, arith, ltb-true, lt-ltb, le-ltb, eq-eqb, ne_eqb}
-use Rattle.std.proofs.Math.Path.{◌≡◌, refl, ap}
+use Rattle.std.proofs.Common.{⊎_elim, ◌∙◌, add-zero, add-suc, suc-add, arith, ltb-true, lt-ltb, le-ltb, eq-eqb, ne_eqb, eqb-true}
+use Rattle.std.proofs.Math.Path.{◌≡◌, refl, sym, ap}
 use Rattle.std.proofs.Math.Dec.{eqb, eqb-zero-suc, eqb-suc-suc}
 use Rattle.laws.specs.Laws.Cases.{lt-or-ge}
 use Rattle.laws.specs.Choice.{◌if◌else◌}
@@ -19,7 +19,8 @@ use Rattle.fitting.specs.Laws.Fits.{fits-fitting}
 use Rattle.cycle.specs.Run.{RunTold, step_more, ran_from, run_answer}
 use Rattle.cycle.specs.Word.{sets_above}
 use Rattle.engine.specs.Answer.{step_number, number_of_step, step_answer, letters_written, values_written}
-use Rattle.token_rule.specs.Calls.{Step, Run, step, run, Done, goes, roomy, makes, run_cycles}
+use Rattle.token_rule.specs.Calls.{Step, Run, Call, step, run, Done, goes, roomy, makes, run_cycles}
+use Rattle.token_rule.specs.TokenRule.{CallRule}
 
 -- a count that fits is 1,000,000 where it is not below
 cycles_test : (s : State) (d : ℕ) → s.cycles ≡ d → s.cycles ≤ 1000000 → eqb s.cycles 1000000 ≡ not (ltb d 1000000)
@@ -123,3 +124,21 @@ pub run-done :
 unfolding Done run_answer
 run-done img a s ok d e x done =
     rw (done.answered, accepts img a, fits-fitting img a s ok) (ran_well img x.words s d e (omega (arith, ok.cycled)))
+
+-- ---- what the rule says of each call
+pub call-rule :
+    (img : List ℕ) → Accepted img → (s : State) → Fitting img s → (d : ℕ) → s.cycles ≡ d → (call : Call) → Done img s call → CallRule img d s call
+unfolding CallRule
+call-rule img a s ok d e (step x) done =
+    let well = step-done img a s ok d e x done in
+    let made : x.answer.number ≡ 0 → makes img d x ≡ true = λ z. sym well.made ∙ eq-eqb x.answer.number 0 z in
+    let none : x.answer.number ≢ 0 → makes img d x ≡ false = λ f. sym well.made ∙ ne_eqb x.answer.number 0 f in
+    record {
+      accepted = (made, λ m. eqb-true x.answer.number 0 (well.made ∙ m));
+      refused = λ f. rw (none f) at well.numbered;
+      untouched = λ f. (rw (none f) at well.lettered, rw (none f) at well.valued, rw (none f) at well.stated);
+      letters = λ z. rw (made z) at well.lettered;
+      values = λ z. rw (made z) at well.valued;
+    }
+call-rule img a s ok d e (run x) done =
+    let well = run-done img a s ok d e x done in record { steps = well.stepped; ended = well.numbered }

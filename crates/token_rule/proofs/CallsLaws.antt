@@ -6,15 +6,18 @@ use mathlib.Core.List.{List, [], ◌∷◌, ◌++◌, append_assoc}
 use Rattle.std.proofs.Math.Path.{refl, sym, ap}
 use Rattle.std.proofs.Common.{◌∙◌, zero-add, arith, ltb-true, length-append}
 use Rattle.std.proofs.Math.ListN.{length}
+use Rattle.std.proofs.lemmas.Bool.{not-true}
+use Rattle.std.proofs.lemmas.List.Elements.{All-nil, All-cons, All-append}
 use Rattle.laws.specs.Choice.{◌if◌else◌}
+use Rattle.laws.specs.Laws.Cases.{and_right}
 use Rattle.laws.specs.Lists.{one_if}
 use Rattle.image.specs.Image.{nodes}
 use Rattle.verdict.specs.Accepted.{Accepted}
 use Rattle.state.specs.declared.State.{State}
 use Rattle.cycle.specs.Cycle.{state_after, after}
 use Rattle.fitting.specs.Fitting.{Fitting}
-use Rattle.cycle.specs.Word.{sets_above}
-use Rattle.token_rule.proofs.CyclesLaws.{after-append, cycles-after, fitting-after}
+use Rattle.cycle.specs.Word.{sets_above, Own}
+use Rattle.cycle.specs.Laws.After.{after-append, cycles-after, fitting-after}
 use Rattle.token_rule.specs.Calls.{Call, step, run, returned, Done, Chain, last_state, goes, roomy, makes, run_cycles, cycles_in, cycles_of}
 use Rattle.token_rule.proofs.AnswersLaws.{step-done, run-done}
 
@@ -41,17 +44,12 @@ cycles-append img d (call ∷ before) later =
     let e : d + length us + length vs ≡ d + length (us ++ vs) = omega (arith, length-append us vs) in
     rw (cycles-append img (d + length us) before later, e) (sym (append_assoc us vs (cycles_of img (d + length (us ++ vs)) later)))
 
--- the cycles of a call stand behind those of the calls before it
+-- wherever a list is cut, the cycles of the later calls stand behind those of the calls before them
 pub cycles_placed :
-    (img : List ℕ) (before later : List Call) (call : Call)
-    → let d = length (cycles_of img 0 before) in
-    cycles_of img 0 (before ++ (call ∷ later)) ≡
-    cycles_of img 0 before ++ (cycles_in img d call ++ cycles_of img (d + length (cycles_in img d call)) later)
-unfolding cycles_of
-cycles_placed img before later call =
-    cycles-append img 0 before (call ∷ later)
-    ∙ ap (λ d. cycles_of img 0 before ++ (cycles_in img d call ++ cycles_of img (d + length (cycles_in img d call)) later))
-    (zero-add (length (cycles_of img 0 before)))
+    (img : List ℕ) (before later : List Call)
+    → cycles_of img 0 (before ++ later) ≡ cycles_of img 0 before ++ cycles_of img (length (cycles_of img 0 before)) later
+cycles_placed img before later =
+    cycles-append img 0 before later ∙ ap (λ d. cycles_of img 0 before ++ cycles_of img d later) (zero-add (length (cycles_of img 0 before)))
 
 -- the cycles made never pass 1,000,000
 run_few : (img words : List ℕ) (d : ℕ) → d ≤ 1000000 → d + length (run_cycles img d words) ≤ 1000000
@@ -82,6 +80,43 @@ cycles_few img [] d h = omega arith
 cycles_few img (call ∷ calls) d h =
     let us = cycles_in img d call in
     omega (arith, cycles_few img calls (d + length us) (call_few img call d h), length-append us (cycles_of img (d + length us) calls))
+
+-- no word of the cycles sets a bit at or above N
+goes-own : (img : List ℕ) (d word : ℕ) → goes img d word ≡ true → sets_above (nodes img) word ≡ false
+unfolding goes
+goes-own img d word e = not-true (sets_above (nodes img) word) (and_right (ltb d 1000000) (not (sets_above (nodes img) word)) e)
+
+module _ (img : List ℕ) where
+  abbrev Good : ℕ → Type 0
+  Good word = sets_above (nodes img) word ≡ false
+
+  run_own : (words : List ℕ) (d : ℕ) → Own (nodes img) (run_cycles img d words)
+  unfolding run_cycles
+  run_own [] d = All-nil Good
+  run_own (w ∷ words) d = turn (goes img d w) (goes-own img d w) (run_own words (suc d))
+    where
+      turn :
+          (p : Bool) → (p ≡ true → Good w) → Own (nodes img) (run_cycles img (suc d) words)
+          → Own (nodes img) ((w ∷ run_cycles img (suc d) words) if p else [])
+      turn true f rest = All-cons Good w (run_cycles img (suc d) words) (f refl) rest
+      turn false f rest = All-nil Good
+
+  call_own : (d : ℕ) (call : Call) → Own (nodes img) (cycles_in img d call)
+  unfolding cycles_in makes
+  call_own d (step x) = one (goes img d x.word) (roomy img x) (goes-own img d x.word)
+    where
+      one : (p q : Bool) → (p ≡ true → Good x.word) → Own (nodes img) (one_if (p && q) x.word)
+      one true true f = All-cons Good x.word [] (f refl) (All-nil Good)
+      one true false f = All-nil Good
+      one false q f = All-nil Good
+  call_own d (run x) = run_own x.words d
+
+  pub cycles_own : (d : ℕ) (calls : List Call) → Own (nodes img) (cycles_of img d calls)
+  unfolding cycles_of
+  cycles_own d [] = All-nil Good
+  cycles_own d (call ∷ calls) =
+      let us = cycles_in img d call in
+      All-append Good us (cycles_of img (d + length us) calls) (call_own d call) (cycles_own (d + length us) calls)
 
 -- ---- the state that a call returned is the one that its cycles leave, and so of the whole list
 module _ (img : List ℕ) (a : Accepted img) where

@@ -1,7 +1,6 @@
 -- The token rule, the theorem. Assumes nothing.
-use Rattle.std.specs.Prelude.{Bool, false, not, List, [], ◌∷◌, ◌++◌, ◌≢◌, ◌≡◌, refl, ℕ, ◌+◌, ◌<◌, ◌≤◌, eqb, ltb}
-use Rattle.std.proofs.Math.Bool.{true}
-use Rattle.std.proofs.Common.{append-nil, sym, ap, subst, ◌∙◌, zero-add, arith, eqb-true, eq-eqb, ne_eqb, length-append}
+use Rattle.std.specs.Prelude.{List, [], ◌∷◌, ◌++◌, ◌≡◌, refl, ℕ, ◌+◌, ◌<◌, ◌≤◌}
+use Rattle.std.proofs.Common.{append-nil, sym, ap, subst, ◌∙◌, zero-add, arith}
 use Rattle.std.proofs.Math.ListN.{length}
 use Rattle.image.specs.Image.{nodes}
 use Rattle.verdict.specs.Accepted.{Accepted}
@@ -15,27 +14,20 @@ use Rattle.state.specs.Fresh.{fresh_state, fresh_answer, FreshDone}
 use Rattle.fitting.specs.Fitting.{Fitting}
 use Rattle.state.specs.Laws.Fresh.{fresh-cycles, fresh_firings}
 use Rattle.fitting.specs.Laws.Fitting.{fitting-fresh}
-use Rattle.cycle.specs.Word.{sets_above}
 use Rattle.cycle.specs.Cycle.{after}
 use Rattle.token_rule.specs.Cycles.{fired_in}
-use Rattle.token_rule.proofs.CyclesLaws.{cycles-after, firings_after, fitting-after, sound-after}
+use Rattle.cycle.specs.Laws.After.{cycles-after, steady-after, fitting-after}
+use Rattle.token_rule.proofs.CyclesLaws.{firings_after, sound-after}
 use Rattle.token_rule.specs.Laws.Sound.{Sound}
 use Rattle.token_rule.specs.Laws.Safety.{sound-fresh}
 use Rattle.token_rule.proofs.ArrivalsLaws.{arrivals-fresh}
 use Rattle.token_rule.specs.Progress.{Furthest}
 use Rattle.token_rule.proofs.ProgressLaws.{progress}
 use Rattle.token_rule.specs.Given.{Given, a_step, a_run, answered, answers}
-use Rattle.token_rule.specs.Calls.{Step, Run, Call, step, run, number_of, returned, Done, Chain, last_state, makes, run_cycles, cycles_of}
-use Rattle.token_rule.proofs.AnswersLaws.{chosen, SteppedWell, step-done, RanWell, run-done}
+use Rattle.token_rule.specs.Calls.{Call, returned, Done, Chain, last_state, cycles_of}
+use Rattle.token_rule.proofs.AnswersLaws.{call-rule}
 use Rattle.token_rule.proofs.CallsLaws.{chain_first, chain_second, cycles_placed, cycles_few, chain-state}
 use Rattle.token_rule.specs.TokenRule.{TokenRule}
-
--- a number of a step is neither 21 nor one of 1 to 11; nor is a run's, which is one of those where q holds
-no_other : (k : ℕ) (m p q : Bool) → k ≡ chosen m p q → (k ≢ 21) × (1 ≤ k → 12 ≤ k)
-no_other k true p q e = (λ h. omega arith, λ h. omega arith)
-no_other k false true q e = (λ h. omega arith, λ h. omega arith)
-no_other k false false true e = (λ h. omega arith, λ h. omega arith)
-no_other k false false false e = (λ h. omega arith, λ h. omega arith)
 
 -- ---- the fresh state
 module _ (img : List ℕ) (a : Accepted img) where
@@ -70,39 +62,6 @@ module _ (img : List ℕ) (a : Accepted img) (calls : List Call) (chain : Chain 
   unfolding Chain
   done_there before later call e = (chain_second img before (call ∷ later) (fresh_state img) (rw e at chain)).0
 
-  run_there :
-      (before later : List Call) (x : Run) → calls ≡ before ++ (run x ∷ later)
-      → let d = length (cycles_of img 0 before) in
-      RanWell img (last_state (fresh_state img) before) d x.words (run_cycles img d x.words) x.answer
-  run_there before later x e =
-      run-done img a (last_state (fresh_state img) before) (fits_there before (run x ∷ later) e) (length (cycles_of img 0 before))
-      (count_there before (run x ∷ later) e) x (done_there before later (run x) e)
-
-  module _ (before later : List Call) (x : Step) (e : calls ≡ before ++ (step x ∷ later)) where
-    step_there : SteppedWell img (last_state (fresh_state img) before) (length (cycles_of img 0 before)) x
-    step_there =
-        step-done img a (last_state (fresh_state img) before) (fits_there before (step x ∷ later) e) (length (cycles_of img 0 before))
-        (count_there before (step x ∷ later) e) x (done_there before later (step x) e)
-
-    -- a step that answered 0 made a cycle
-    made_there : x.answer.number ≡ 0 → makes img (length (cycles_of img 0 before)) x ≡ true
-    made_there z = sym step_there.made ∙ eq-eqb x.answer.number 0 z
-
-    none_there : x.answer.number ≢ 0 → makes img (length (cycles_of img 0 before)) x ≡ false
-    none_there f = sym step_there.made ∙ ne_eqb x.answer.number 0 f
-
-  -- the calls of the list answer no number but those that a step or a run can answer here
-  numbers_there :
-      (before later : List Call) (call : Call) → calls ≡ before ++ (call ∷ later) → (number_of call ≢ 21) × (1 ≤ number_of call → 12 ≤ number_of call)
-  unfolding number_of
-  numbers_there before later (step x) e =
-      let d = length (cycles_of img 0 before) in
-      no_other x.answer.number (makes img d x) (not (ltb d 1000000)) (sets_above (nodes img) x.word) (step_there before later x e).numbered
-  numbers_there before later (run x) e =
-      let d = length (cycles_of img 0 before) in
-      no_other x.answer.number (eqb x.answer.steps (length x.words)) (not (ltb (d + x.answer.steps) 1000000)) true
-      (run_there before later x e).numbered
-
   -- the last state: its nodes' firings and values
   whole : calls ≡ calls ++ []
   whole = sym (append-nil calls)
@@ -118,30 +77,19 @@ module _ (img : List ℕ) (a : Accepted img) (calls : List Call) (chain : Chain 
   rule : TokenRule img (fresh_state img) calls (cycles_of img 0 calls)
   rule =
       record {
-        placed = λ before later call e. ap (cycles_of img 0) e ∙ cycles_placed img before later call;
+        placed = λ before later e. ap (cycles_of img 0) e ∙ cycles_placed img before later;
         worked = state_there;
-        accepted = λ before later x e.
-            (made_there before later x e, λ m. eqb-true x.answer.number 0 ((step_there before later x e).made ∙ m));
-        refused = λ before later x e f. rw (none_there before later x e f) at (step_there before later x e).numbered;
-        untouched = λ before later x e f.
-            let well = step_there before later x e in
-            let none = none_there before later x e f in (rw none at well.lettered, rw none at well.valued, rw none at well.stated);
-        no_21 = numbers_there;
-        letters = λ before later x e z.
-            rw (made_there before later x e z, state_there before (step x ∷ later) e) at (step_there before later x e).lettered;
-        values = λ before later x e z.
-            rw (made_there before later x e z, state_there before (step x ∷ later) e) at (step_there before later x e).valued;
-        steps = λ before later x e. (run_there before later x e).stepped;
-        ended = λ before later x e. (run_there before later x e).numbered;
+        called = λ before later call e.
+            call-rule img a (last_state (fresh_state img) before) (fits_there before (call ∷ later) e) (length (cycles_of img 0 before))
+            (count_there before (call ∷ later) e) call (done_there before later call e);
         arrived = λ c h. arrivals-fresh img a c h (cycles_of img 0 calls);
         shown = λ n h. sound_last.valued n h ∙ ap (strict img n) (firings_last n h);
         firings = firings_last;
         count = count_there calls [] whole;
         progress = λ us span vs e long n h least awake.
             let s = after img (fresh_state img) us in
-            let fit = fits_after img a us (omega (arith, ap length e, length-append us (span ++ vs), cycles_few img calls 0 (omega arith))) in
             let behind : Furthest img s n = λ i k. rw (fired-after img a us n h, fired-after img a us i k) (least i k) in
-            progress img a s fit.steady n h behind span long awake;
+            progress img a s (steady-after img a us (fresh_state img) (fitting-fresh img a).steady) n h behind span long awake;
       }
 
 fresh-state : (img : List ℕ) (fresh : Told) → judge img ≡ 0 → FreshDone img fresh → fresh.state ≡ fresh_state img
@@ -157,6 +105,14 @@ token_rule img fresh calls e done chain =
     let same = fresh-state img fresh e done in
     subst (λ (s : State). TokenRule img s calls (cycles_of img 0 calls)) (sym same)
     (rule img (accepted img e) calls (subst (λ (s : State). Chain img s calls) same chain))
+
+-- the state that the list returned last is the one that its cycles have left
+pub last_reached :
+    (img : List ℕ) (fresh : Told) (calls : List Call) → judge img ≡ 0 → FreshDone img fresh → Chain img fresh.state calls
+    → last_state fresh.state calls ≡ after img (fresh_state img) (cycles_of img 0 calls)
+last_reached img fresh calls e done chain =
+    (token_rule img fresh calls e done chain).worked calls [] (sym (append-nil calls))
+    ∙ ap (λ (s : State). after img s (cycles_of img 0 calls)) (fresh-state img fresh e done)
 
 -- ---- the rule speaks of something: whatever the calls of a list are given, they can be answered so that the list is a chain
 call-answered : (img : List ℕ) (s : State) (given : Given) → Done img s (answered img s given)

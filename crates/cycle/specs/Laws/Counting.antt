@@ -31,7 +31,7 @@ use Rattle.cycle.specs.Laws.Counters.{entered, limit, Enabled}
 -- ---- the counts of one state
 module _ (img : List ℕ) (s : State) (c : ℕ) where
   -- tokens that have entered a station have entered the next place or are in the station
-  entered_inside :
+  pub entered_inside :
       (j : ℕ) → j < stations img c → entered img s c (suc j) ≡ entered img s c (suc (suc j)) + length (get_or (channel_in img s c).row j [])
   unfolding entered contents
   entered_inside j l =
@@ -39,15 +39,15 @@ module _ (img : List ℕ) (s : State) (c : ℕ) where
       rw (drop-cons row j [] (rw (length-row img s c) l)) (omega (arith, length-append (contents (drop (suc j) row)) (get_or row j [])))
 
   -- tokens that have entered the queue were taken from it or are in it
-  entered_end : (j : ℕ) → stations img c ≤ j → entered img s c (suc j) ≡ firings_at s (to img c) + length (channel_in img s c).queue
+  pub entered_end : (j : ℕ) → stations img c ≤ j → entered img s c (suc j) ≡ firings_at s (to img c) + length (channel_in img s c).queue
   unfolding entered contents
   entered_end j l = rw (drop_of_length-le (channel_in img s c).row {i = j} (rw (length-row img s c) l)) (omega arith)
 
-  limit_inside : (j : ℕ) → j < stations img c → limit img s c j ≡ entered img s c (suc (suc j)) + 2
+  pub limit_inside : (j : ℕ) → j < stations img c → limit img s c j ≡ entered img s c (suc (suc j)) + 2
   unfolding limit
   limit_inside j l = rw (lt-ltb j (stations img c) l)
 
-  limit_end : (j : ℕ) → stations img c ≤ j → limit img s c j ≡ firings_at s (to img c) + depth img c
+  pub limit_end : (j : ℕ) → stations img c ≤ j → limit img s c j ≡ firings_at s (to img c) + depth img c
   unfolding limit
   limit_end j l = rw (le-ltb j (stations img c) l)
 
@@ -97,7 +97,7 @@ module _ (img : List ℕ) (s : State) (c : ℕ) where
         (lt-or-ge j (stations img c))
 
     -- the tokens that were made and have not entered place 1 are pending
-    entered-first : entered img s c 0 ≡ entered img s c 1 + length (channel_in img s c).source
+    pub entered-first : entered img s c 0 ≡ entered img s c 1 + length (channel_in img s c).source
     unfolding entered tokens
     entered-first =
         let ch = channel_in img s c in

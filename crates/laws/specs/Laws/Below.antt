@@ -1,6 +1,6 @@
 -- Laws of what is said of all numbers below n. Assumes nothing.
-use Rattle.std.specs.Prelude.{◌≡◌, refl, ◌↔◌, Bool, true, false, not, ℕ, zero, suc, ◌+◌, ◌<◌, ◌≤◌}
-use Rattle.std.proofs.Common.{sym, ap, ◌∙◌, ⊎_elim, not-suc-le-zero, arith}
+use Rattle.std.specs.Prelude.{◌≡◌, refl, ◌↔◌, Bool, true, false, not, ℕ, zero, suc, ◌+◌, ◌-◌, ◌<◌, ◌≤◌}
+use Rattle.std.proofs.Common.{sym, ap, ◌∙◌, ⊎_elim, not-suc-le-zero, add-zero, add-suc, arith}
 use mathlib.Core.List.{List, [], ◌∷◌, ◌++◌}
 use Rattle.std.specs.List.{list_any, list_all, range_with_len}
 use Rattle.std.proofs.lemmas.List.Folds.{list_any-append, list_all-append}
@@ -81,11 +81,29 @@ unfolding sum_below
 sum_same f g zero h = refl
 sum_same f g (suc n) h = rw (sum_same f g n (λ k l. h k (omega arith)), h n (omega arith))
 
+-- a sum over the numbers below e + n is one over those below e, and one over the n behind them
+pub sum_add : (f : ℕ → ℕ) (e n : ℕ) → sum_below f (e + n) ≡ sum_below f e + sum_below (λ k. f (e + k)) n
+unfolding sum_below
+sum_add f e zero = omega (arith, ap (sum_below f) (add-zero e))
+sum_add f e (suc n) = rw add-suc (omega (arith, sum_add f e n))
+
+-- what f counts at a number below n is in the sum
+pub sum_at : (f : ℕ → ℕ) (k n : ℕ) → k < n → f k ≤ sum_below f n
+unfolding sum_below
+sum_at f k zero h = absurd (not-suc-le-zero h)
+sum_at f k (suc n) h = ⊎_elim (λ (e : k ≡ n). rw e (omega arith)) (λ (l : k < n). omega (arith, sum_at f k n l)) (below_suc h)
+
 -- what f counts at a number below n is at most the largest that it counts there
 pub most-at : (f : ℕ → ℕ) (k n : ℕ) → k < n → f k ≤ most_below f n
 unfolding most_below
 most-at f k zero h = absurd (not-suc-le-zero h)
 most-at f k (suc n) h = ⊎_elim (λ (e : k ≡ n). rw e (omega arith)) (λ (l : k < n). omega (arith, most-at f k n l)) (below_suc h)
+
+-- the largest is within every bound of all
+pub most_few : (f : ℕ → ℕ) (b n : ℕ) → ((k : ℕ) → k < n → f k ≤ b) → most_below f n ≤ b
+unfolding most_below
+most_few f b zero h = omega arith
+most_few f b (suc n) h = omega (arith, most_few f b n (λ k l. h k (omega arith)), h n (omega arith))
 
 -- ---- what is picked
 -- a pick is d, or f at a number below n: what holds of d and of each of these holds of the pick
@@ -122,21 +140,43 @@ pick_same s t f g d (suc n) h l =
     (λ (e : t n ≡ false). rw e (pick_same s t f g d n (λ k b. h k (omega arith)) (λ k b. l k (omega arith))))
     (true_or_false (t n)))
 
+module _ {A : Type 0} (test : ℕ → Bool) (f : ℕ → A) where
+  -- a pick from the numbers below e + n is one from the n behind e, which falls back on one from those below e
+  pick_add : (d : A) (e n : ℕ) → pick_below test f d (e + n) ≡ pick_below (λ k. test (e + k)) (λ k. f (e + k)) (pick_below test f d e) n
+  unfolding pick_below
+  pick_add d e zero = rw add-zero
+  pick_add d e (suc n) = rw (add-suc, pick_add d e n)
+
+  -- where the test holds nowhere, nothing is picked
+  pub pick_none : (d : A) (n : ℕ) → ((k : ℕ) → k < n → test k ≡ false) → pick_below test f d n ≡ d
+  unfolding pick_below
+  pick_none d zero h = refl
+  pick_none d (suc n) h = rw (h n (omega arith)) (pick_none d n (λ k l. h k (omega arith)))
+
+-- where the test holds only at numbers from e to e + n, only these count
+pub pick_window :
+    {A : Type 0} (test : ℕ → Bool) (f : ℕ → A) (d : A) (e n m : ℕ) → e + n ≤ m
+    → ((k : ℕ) → k < m → test k ≡ true → (e ≤ k) × (k < e + n))
+    → pick_below test f d m ≡ pick_below (λ k. test (e + k)) (λ k. f (e + k)) d n
+pick_window test f d e n m there only =
+    let r = m - (e + n) in
+    let q : m ≡ e + n + r = omega arith in
+    ap (pick_below test f d) q
+    ∙ pick_add test f d (e + n) r
+    ∙ pick_none (λ k. test (e + n + k)) (λ k. f (e + n + k)) (pick_below test f d (e + n)) r (λ k l. not_at (e + n + k) (omega arith) (λ b. omega arith))
+    ∙ pick_add test f d e n
+    ∙ ap (λ x. pick_below (λ k. test (e + k)) (λ k. f (e + k)) x n) (pick_none test f d e (λ k l. not_at k (omega arith) (λ b. omega arith)))
+  where
+    not_at : (k : ℕ) → k < m → ((e ≤ k) × (k < e + n) → ⊥) → test k ≡ false
+    not_at k l none = ⊎_elim (λ (t : test k ≡ true). absurd (none (only k l t))) (λ (t : test k ≡ false). t) (true_or_false (test k))
+
 -- where the test holds at one number below n alone, the pick is f at that number
 pub pick_only :
     {A : Type 0} (test : ℕ → Bool) (f : ℕ → A) (d : A) (k n : ℕ)
     → k < n → test k ≡ true → ((j : ℕ) → j < n → test j ≡ true → j ≡ k) → pick_below test f d n ≡ f k
 unfolding pick_below
-pick_only test f d k zero h e only = absurd (not-suc-le-zero h)
-pick_only test f d k (suc n) h e only =
-    ⊎_elim
-    (λ (q : k ≡ n). rw (← q, e))
-    (λ (l : k < n).
-    ⊎_elim
-    (λ (t : test n ≡ true). let q = only n (omega arith) t in rw (t, q))
-    (λ (t : test n ≡ false). rw t (pick_only test f d k n l e (λ j b. only j (omega arith))))
-    (true_or_false (test n)))
-    (below_suc h)
+pick_only test f d k n h e only =
+    pick_window test f d k 1 n (omega (arith, h)) (λ j l t. let q = only j l t in (omega (arith, q), omega (arith, q))) ∙ rw (add-zero, e)
 
 -- a pick of true, and of false where the test holds at no number, says whether the test holds at some number below n
 pub pick_any : (test : ℕ → Bool) (n : ℕ) → pick_below test (λ k. true) false n ≡ any_below test n

@@ -4,13 +4,13 @@ use Rattle.std.proofs.Math.Bool.{or-false}
 use mathlib.Core.List.{List, [], ◌∷◌, ◌++◌, append_assoc}
 use Rattle.std.proofs.Math.Logic.{⊎_elim}
 use Rattle.std.proofs.Math.Path.{refl, ap}
-use Rattle.std.proofs.Common.{sym, ◌∙◌, not-suc-le-zero, le_of_suc-le-suc, add-one, eq-eqb, ne_eqb, length-append, length-set, take_all, drop-cons, get_or-set_same, get_or-set_other, ext_get_or}
+use Rattle.std.proofs.Common.{sym, ◌∙◌, not-suc-le-zero, le_of_suc-le-suc, add-zero, add-suc, add-one, append-nil, eq-eqb, ne_eqb, length-append, length-set, drop-cons, get_or-set_same, get_or-set_other, ext_get_or}
 use Prim.Native.Nat.{ℕ, zero, suc, ◌+◌, ◌-◌, ◌<◌, ◌≤◌}
 use Rattle.std.proofs.Math.Decide.{ℕ_discrete}
 use native.Mathlib.Omega.{arith}
 use Rattle.std.proofs.Math.ListN.{length, drop, replicate, get_or-append}
 use Rattle.std.proofs.lemmas.List.{length-replicate, get_or_at}
-use Rattle.std.proofs.Math.Seq.{take-append-le, drop-append-add, set_at}
+use Rattle.std.proofs.Math.Seq.{take-append_seam, drop-append-add, set_at}
 use Rattle.laws.specs.Laws.Cases.{lt-or-ge, below_suc}
 use Rattle.laws.specs.Lists.{padded}
 use Rattle.laws.specs.Laws.Lists.{length-padded, replicate_rest, padded_rest, padded-set}
@@ -44,18 +44,19 @@ module _ {A : Type 0} where
   table_same f g zero h = refl
   table_same f g (suc n) h = rw (table_same f g n (λ i l. h i (omega arith)), h n (omega arith))
 
+  -- a table of e + n places is one of e, and one of the n behind them
+  pub table_add : (f : ℕ → A) (e n : ℕ) → table f (e + n) ≡ table f e ++ table (λ k. f (e + k)) n
+  unfolding table
+  table_add f e zero = rw add-zero (sym (append-nil (table f e)))
+  table_add f e (suc n) = rw (add-suc, table_add f e n) (append_assoc (table f e) (table (λ k. f (e + k)) n) (f (e + n) ∷ []))
+
   -- the first n places of a table are the table of n places
   pub take-table : (f : ℕ → A) (n m : ℕ) → n ≤ m → take n (table f m) ≡ table f n
-  unfolding table
-  take-table f zero zero h = refl
-  take-table f (suc n) zero h = absurd (not-suc-le-zero h)
-  take-table f n (suc m) h =
-      ⊎_elim
-      (λ (l : n < suc m). take-append-le n (table f m) (f m ∷ []) (rw (length-table f m) (omega arith)) ∙ take-table f n m (omega arith))
-      (λ (l : suc m ≤ n).
-      let e : n ≡ suc m = omega arith in
-      rw e (take_all (suc m) (table f m ++ (f m ∷ [])) (rw (length-append, length-table f m) (omega arith))))
-      (lt-or-ge n (suc m))
+  take-table f n m h =
+      let e : m ≡ n + (m - n) = omega arith in
+      ap (λ k. take n (table f k)) e
+      ∙ ap (take n) (table_add f n (m - n))
+      ∙ rw (length-table f n) at (take-append_seam (table f n) (table (λ k. f (n + k)) (m - n)))
 
   -- writing f n to place n carries a table over n places of a list on to n + 1 places
   pub over_set : (f : ℕ → A) (n : ℕ) (l : List A) → n < length l → set (table_over f n l) n (f n) ≡ table_over f (suc n) l

@@ -92,13 +92,15 @@ module _ (img : List ℕ) (t : ℕ) (node : ℕ → Node) (channel : ℕ → Cha
         ∙ ap (table (λ j. get_or (channel c).row j [])) (sym long) ∙ sym (table_own (channel c).row []) in
         rw (pending_of, pending_test, ap (λ (x : Node). x.value) (node_of (from img c) wired), ← same, row, queue_of_lem, waiting_of)
 
--- states written from nodes and channels that agree are the same
-state_same :
-    (img : List ℕ) (t : ℕ) (f g : ℕ → Node) (a b : ℕ → Channel)
-    → ((n : ℕ) → n < nodes img → f n ≡ g n) → ((c : ℕ) → c < channels img → a c ≡ b c) → state_of img t f a ≡ state_of img t g b
+-- states written for images of as many nodes and channels, from nodes and channels that agree, are the same
+pub states_same :
+    (img other : List ℕ) → nodes img ≡ nodes other → channels img ≡ channels other → (t : ℕ) (f g : ℕ → Node) (a b : ℕ → Channel)
+    → ((n : ℕ) → n < nodes img → f n ≡ g n) → ((c : ℕ) → c < channels img → a c ≡ b c) → state_of img t f a ≡ state_of other t g b
 unfolding state_of
-state_same img t f g a b m h =
+states_same img other ns cs t f g a b m h =
     rw (
+      ← ns,
+      ← cs,
       table_same f g (nodes img) m,
       table_same {A = ℕ} (λ c. 1 if holds (a c).source else 0) (λ c. 1 if holds (b c).source else 0) (channels img)
           (λ c l. ap {B = ℕ} (λ (x : Channel). 1 if holds x.source else 0) (h c l)),
@@ -113,4 +115,4 @@ pub written_of :
     ((c : ℕ) → c < channels img → channel_in img s c ≡ channel c) → s ≡ state_of img t (node_at s) (channel_in img s)
 written_of img t node channel same =
     let s = state_of img t node channel in
-    state_same img t node (node_at s) channel (channel_in img s) (λ n h. sym (node_of img t node channel n h)) (λ c h. sym (same c h))
+    states_same img img refl refl t node (node_at s) channel (channel_in img s) (λ n h. sym (node_of img t node channel n h)) (λ c h. sym (same c h))

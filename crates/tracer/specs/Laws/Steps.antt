@@ -1,36 +1,19 @@
 -- No call that a program makes for an input of number 0 is refused, from the fresh state on, word by word, but for room. Assumes nothing.
-use Rattle.std.specs.Prelude.{List, ◌≡◌, ℕ, zero, suc, ◌<◌, ◌≤◌, length, get_or, take}
-use Rattle.std.proofs.Common.{sym, ap, ◌∙◌, arith, le-ltb, ne_eqb}
+use Rattle.std.specs.Prelude.{List, ◌≡◌, ℕ, ◌<◌, ◌≤◌, length, get_or, take}
+use Rattle.std.proofs.Common.{sym, arith, le-ltb, ne_eqb, length-take-le}
 use Rattle.std.proofs.Math.Seq.{take-length}
 use Rattle.image.specs.Image.{channels}
-use Rattle.verdict.specs.Accepted.{Accepted}
 use Rattle.verdict.specs.Laws.Accepted.{accepted}
 use Rattle.state.specs.Fresh.{fresh_state}
 use Rattle.state.specs.Laws.Fresh.{fresh-cycles}
-use Rattle.fitting.specs.Fitting.{Fitting}
 use Rattle.fitting.specs.Laws.Fitting.{fitting-fresh}
 use Rattle.fitting.specs.Laws.Fits.{fits-fitting}
 use Rattle.cycle.specs.Cycle.{after}
-use Rattle.cycle.specs.Laws.Cycle.{cycles-next}
-use Rattle.cycle.specs.Laws.Kept.{fitting-next}
-use Rattle.cycle.specs.Loops.Turns.{after_next}
+use Rattle.cycle.specs.Laws.After.{cycles-after, fitting-after}
 use Rattle.engine.specs.Answer.{step_number, state_number}
 use Rattle.engine.specs.Laws.Answer.{state_0, number_last}
 use Rattle.trace_input.specs.Input.{image_of, words_of, input_number}
 use Rattle.trace_input.specs.Laws.Input.{input-accepted, words_few, words_below}
-
--- the state before word k fits, and k cycles are done
-steps_fit :
-    (img words : List ℕ) (a : Accepted img) → length words ≤ 1000000 → (k : ℕ) → k ≤ length words
-    → let s = after img (fresh_state img) (take k words) in Fitting img s × (s.cycles ≡ k)
-unfolding after
-steps_fit img words a few zero h = (fitting-fresh img a, fresh-cycles img)
-steps_fit img words a few (suc k) h =
-    let s = after img (fresh_state img) (take k words) in
-    let w = get_or words k 0 in
-    let i = steps_fit img words a few k (omega arith) in
-    rw (after_next img (fresh_state img) words k h)
-    (fitting-next img a w s i.0 (omega (arith, i.1)), cycles-next img w s ∙ ap suc i.1)
 
 module _ (input : List ℕ) (e : input_number input (length input) ≡ 0) where
   abbrev img : List ℕ
@@ -44,8 +27,12 @@ module _ (input : List ℕ) (e : input_number input (length input) ≡ 0) where
   state_taken k h =
       let j = input-accepted input e in
       let a = accepted img j in
-      let i = steps_fit img words a (omega (arith, words_few input e)) k h in
-      (sym (state_0 img _ j (fits-fitting img a _ i.0)), i.1)
+      let few : length (take k words) ≡ k = length-take-le k words h in
+      let fit =
+      fitting-after img a (take k words) (fresh_state img) (fitting-fresh img a) (omega (arith, fresh-cycles img, few, words_few input e)) in
+      let count : (after img (fresh_state img) (take k words)).cycles ≡ k =
+      omega (arith, cycles-after img (fresh_state img) (take k words), fresh-cycles img, few) in
+      (sym (state_0 img _ j (fits-fitting img a _ fit)), count)
 
   -- the step with word k is not refused
   pub step_taken :

@@ -15,7 +15,7 @@ use Rattle.verdict.specs.Laws.Clear.{clear, unclear}
 use Rattle.verdict.specs.Laws.Fed.{once-iff, fed_iff}
 
 -- the test for a feeding channel finds one exactly if there is one
-found : (img : List ℕ) (n p : ℕ) → Feeder img n p → any_below (feeds img n p) (channels img) ≡ true
+pub found : (img : List ℕ) (n p : ℕ) → Feeder img n p → any_below (feeds img n p) (channels img) ≡ true
 found img n p f = any_hit (feeds img n p) f.channel (channels img) f.there ((feeds_ok img n p f.channel).1 (f.node, f.input))
 
 feeder : (img : List ℕ) (n p : ℕ) → any_below (feeds img n p) (channels img) ≡ true → Feeder img n p
