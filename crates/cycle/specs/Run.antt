@@ -2,9 +2,8 @@
 use Rattle.std.specs.Prelude.{not, List, [], ◌∷◌, ◌≡◌, ℕ, suc, eqb}
 use Rattle.laws.specs.Choice.{◌if◌else◌}
 use Rattle.image.specs.Image.{nodes}
-use Rattle.verdict.specs.Judge.{judge}
 use Rattle.state.specs.declared.State.{State}
-use Rattle.fitting.specs.Fits.{fits}
+use Rattle.fitting.specs.Fits.{state_number}
 use Rattle.cycle.specs.Word.{sets_above}
 use Rattle.cycle.specs.Cycle.{state_after}
 
@@ -14,25 +13,26 @@ pub record RunTold : Type 0 where
   pub number : ℕ
   pub state : State
 
+-- what a run returns that makes no step: its number, and the state that it was handed
+abbrev pub no_step : ℕ → State → RunTold
+no_step number s = record { steps = 0; number = number; state = s }
+
 -- what a run returns with one step more, made before those that it counts
 unfoldable pub step_more : RunTold → RunTold
-step_more r = record { steps = suc r.steps; number = r.number; state = r.state }
+step_more r = record r { steps = suc r.steps }
 
 -- what a run returns from a state that fits. "It returns the steps done, the state after them, and the number or 0." "then 22 and 12 before each
 -- word"
 unfoldable pub ran_from : List ℕ → State → List ℕ → RunTold
-ran_from img s [] = record { steps = 0; number = 0; state = s }
+ran_from img s [] = no_step 0 s
 ran_from img s (word ∷ words) =
-    record { steps = 0; number = 22; state = s } if eqb s.cycles 1000000 else
-    record { steps = 0; number = 12; state = s } if sets_above (nodes img) word else
+    no_step 22 s if eqb s.cycles 1000000 else
+    no_step 12 s if sets_above (nodes img) word else
     step_more (ran_from img (state_after img word s) words)
 
 -- what a run returns, whatever image and state are: "The run checks the image and 21 once"
 unfoldable pub run_answer : List ℕ → State → List ℕ → RunTold
-run_answer img s words =
-    record { steps = 0; number = judge img; state = s } if not (eqb (judge img) 0) else
-    record { steps = 0; number = 21; state = s } if not (fits img s) else
-    ran_from img s words
+run_answer img s words = no_step (state_number img s) s if not (eqb (state_number img s) 0) else ran_from img s words
 
 -- what a run has done: each contract of one ensures this record
 pub record RunDone (img : List ℕ) (s : State) (words : List ℕ) (answer : RunTold) : Type 0 where

@@ -1,24 +1,32 @@
 -- What a step answers, and what it leaves in the arrays that it is lent.
-use Rattle.std.specs.Prelude.{not, ◌||◌, List, ◌++◌, ◌≡◌, ℕ, eqb, ltb, ℤ, length, drop}
-use Rattle.laws.specs.Choice.{◌if◌else◌}
+use Rattle.std.specs.Prelude.{◌||◌, List, ◌++◌, ◌≡◌, ℕ, eqb, ltb, ℤ, Result, Ok, Err, length, drop}
+use Rattle.laws.specs.Choice.{◌if◌else◌, ◌then◌}
+use Rattle.refusal.specs.Number.{number}
 use Rattle.image.specs.Image.{nodes, channels}
-use Rattle.verdict.specs.Judge.{judge}
+use Rattle.state.specs.declared.Refused.{Refused}
 use Rattle.state.specs.declared.State.{State}
-use Rattle.state.specs.Told.{Told}
+use Rattle.fitting.specs.Fits.{state_number}
 use Rattle.cycle.specs.Cycle.{state_after, letters_of, values_of}
 use Rattle.cycle.specs.Word.{sets_above}
-use Rattle.fitting.specs.Fits.{fits}
 
--- the number that refuses an image or a state, whatever the call: the judge's, then 21
-unfoldable pub state_number : List ℕ → State → ℕ
-state_number img s = judge img if not (eqb (judge img) 0) else 21 if not (fits img s) else 0
+-- what a step tells: its number, 0 where it is not refused, and the state that it returns
+pub record StepTold : Type 0 where
+  pub number : ℕ
+  pub state : State
+
+-- what a step tells by its number and the state that it returns
+abbrev pub stepped : ℕ → State → StepTold
+stepped number s = record { number = number; state = s }
+
+-- what the code's answer of a step tells
+abbrev pub step_told : Result State Refused → StepTold
+step_told (Ok s) = stepped 0 s
+step_told (Err r) = stepped (number r.refusal) r.state
 
 -- a step's number, given its word and the lengths of the two lent arrays: "1 to 11 rising ..; then 21, 22, 12, 13"
 unfoldable pub step_number : List ℕ → State → ℕ → ℕ → ℕ → ℕ
 step_number img s word letters values =
-    judge img if not (eqb (judge img) 0) else
-    -- the state does not fit the image
-    21 if not (fits img s) else
+    state_number img s then
     -- the cycle count is 1,000,000
     22 if eqb s.cycles 1000000 else
     -- stall word sets a bit at or above N
@@ -34,8 +42,8 @@ module _ (img : List ℕ) (s : State) (word : ℕ) (letters : List ℕ) (values 
   number_of_step = step_number img s word (length letters) (length values)
 
   -- what a step returns: its number, and the state after the cycle, or the state that it was handed if it is refused
-  unfoldable pub step_answer : Told
-  step_answer = record { number = number_of_step; state = state_after img word s if eqb number_of_step 0 else s }
+  unfoldable pub step_answer : StepTold
+  step_answer = stepped number_of_step (state_after img word s if eqb number_of_step 0 else s)
 
   -- what the lent letters hold after a step: the C letters in the first places, or what they held before if it is refused
   unfoldable pub letters_written : List ℕ
@@ -48,7 +56,7 @@ module _ (img : List ℕ) (s : State) (word : ℕ) (letters : List ℕ) (values 
 -- what a step has done that was lent arrays that held `letters` and `values`, and hold `letters_left` and `values_left` after it, by equations with
 -- the definitions: its contract ensures this record, and the token rule is stated over calls that obey it
 pub record StepDone
-    (img : List ℕ) (s : State) (word : ℕ) (letters : List ℕ) (values : List ℤ) (answer : Told) (letters_left : List ℕ) (values_left : List ℤ)
+    (img : List ℕ) (s : State) (word : ℕ) (letters : List ℕ) (values : List ℤ) (answer : StepTold) (letters_left : List ℕ) (values_left : List ℤ)
     : Type 0 where
   pub answered : answer ≡ step_answer img s word letters values
   pub lettered : letters_left ≡ letters_written img s word letters values

@@ -7,10 +7,10 @@
 
 ghost use Rattle.std.specs.Prelude.{◌≡◌, IfOk};
 ghost use Rattle.refusal.specs.Number.{number_of};
-ghost use Rattle.state.specs.Told.{told};
+ghost use Rattle.fitting.specs.Fits.{state_number};
 ghost use Rattle.cycle.specs.Run.{RunDone};
 ghost use Rattle.clock.specs.Told.{run_told};
-ghost use Rattle.engine.specs.Answer.{state_number, StepDone};
+ghost use Rattle.engine.specs.Answer.{step_told, StepDone};
 
 use clock::Ran;
 use netlist::Netlist;
@@ -44,7 +44,7 @@ pub fn step(
     letters: &mut [u8],
     values: &mut [i32],
 ) -> Result<State, Refused>
-    ensures { StepDone image.now state word letters.old values.old (told result) letters.new values.new }
+    ensures { StepDone image.now state word letters.old values.old (step_told result) letters.new values.new }
 {
     let netlist = match Netlist::judged(image) {
         Ok(netlist) => netlist,

@@ -1,9 +1,12 @@
--- Number 21: "the state does not fit the image. It fits when:" the six conditions below hold, in this order.
-use Rattle.std.specs.Prelude.{Bool, ◌&&◌, ◌||◌, List, ℕ, ◌+◌, eqb, leb, ltb}
+-- Number 21: "the state does not fit the image. It fits when:" the six conditions below hold, in this order. And the number that refuses an image or a
+-- state.
+use Rattle.std.specs.Prelude.{Bool, not, ◌&&◌, ◌||◌, List, ℕ, ◌+◌, eqb, leb, ltb}
 use Rattle.laws.specs.Below.{all_below, sum_below}
+use Rattle.laws.specs.Choice.{◌if◌else◌, ◌then◌}
 use Rattle.laws.specs.Lists.{zero_from}
 use Rattle.laws.specs.Signed.{is_zero}
 use Rattle.image.specs.Image.{nodes, channels, from, to, stations, depth}
+use Rattle.verdict.specs.Judge.{judge}
 use Rattle.relay.specs.Station.{clear}
 use Rattle.state.specs.declared.State.{State}
 use Rattle.state.specs.State.{value_at, firings_at, pending_at, station_at, queue_at}
@@ -60,3 +63,7 @@ module _ (img : List ℕ) (s : State) where
   -- whether a state fits an image: all six conditions hold
   unfoldable pub fits : Bool
   fits = cycles_fit && firings_fit && pending_fit && counts_fit && unused_clear && all_below balanced (channels img)
+
+  -- the number that refuses an image or a state, whatever the call: the judge's, then 21
+  unfoldable pub state_number : ℕ
+  state_number = judge img then 21 if not fits else 0

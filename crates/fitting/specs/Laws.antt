@@ -2,3 +2,4 @@
 pub mod Places
 pub mod Fits
 pub mod Fitting
+pub mod Number

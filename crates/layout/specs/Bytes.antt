@@ -87,7 +87,7 @@ places_in bytes =
 
 -- what fewer bytes than a state has are read as: a state that fits no image, by its cycle count
 unfoldable pub no_state : State
-no_state = record { cycles = 1000001; nodes = zeros.nodes; pending = zeros.pending; stations = zeros.stations; queues = zeros.queues }
+no_state = record zeros { cycles = 1000001 }
 
 -- the state that bytes are read as: it stands in the first of them, and what follows it is not looked at
 unfoldable pub state_in : List ℕ → State

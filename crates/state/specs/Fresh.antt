@@ -6,7 +6,7 @@ use Rattle.verdict.specs.Judge.{judge}
 use Rattle.relay.specs.Station.{station_of}
 use Rattle.shell.specs.Channel.{Channel}
 use Rattle.shell.specs.Queue.{queue_of}
-use Rattle.state.specs.Told.{Told}
+use Rattle.state.specs.Told.{Told, tells}
 use Rattle.state.specs.declared.Node.{Node}
 use Rattle.state.specs.declared.State.{State}
 use Rattle.state.specs.State.{no_node, state_of}
@@ -36,7 +36,7 @@ zeros =
 
 -- what a call for a fresh state answers: 0 and the fresh state, or one of the numbers 1 to 11 and zeros
 unfoldable pub fresh_answer : List ℕ → Told
-fresh_answer img = record { number = judge img; state = fresh_state img if eqb (judge img) 0 else zeros }
+fresh_answer img = tells (judge img) (fresh_state img if eqb (judge img) 0 else zeros)
 
 -- what a call for a fresh state has done: its contract ensures this record
 pub record FreshDone (img : List ℕ) (answer : Told) : Type 0 where

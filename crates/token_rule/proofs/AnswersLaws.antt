@@ -9,16 +9,15 @@ use Rattle.laws.specs.Choice.{◌if◌else◌}
 use Rattle.laws.specs.Laws.Tests.{ltb_leb}
 use Rattle.image.specs.Image.{nodes, channels}
 use Rattle.verdict.specs.Accepted.{Accepted}
-use Rattle.verdict.specs.Laws.Accepted.{accepts}
 use Rattle.state.specs.declared.State.{State}
-use Rattle.state.specs.Told.{Told}
 use Rattle.cycle.specs.Cycle.{state_after, letters_of, values_of, after}
 use Rattle.cycle.specs.Laws.Cycle.{cycles-next}
 use Rattle.fitting.specs.Fitting.{Fitting}
-use Rattle.fitting.specs.Laws.Fits.{fits-fitting}
-use Rattle.cycle.specs.Run.{RunTold, step_more, ran_from, run_answer}
+use Rattle.fitting.specs.Laws.Number.{state_fitting}
+use Rattle.cycle.specs.Run.{RunTold, no_step, step_more, ran_from}
+use Rattle.cycle.specs.Laws.Run.{run-made}
 use Rattle.cycle.specs.Word.{sets_above}
-use Rattle.engine.specs.Answer.{step_number, number_of_step, step_answer, letters_written, values_written}
+use Rattle.engine.specs.Answer.{StepTold, step_number, number_of_step, step_answer, letters_written, values_written}
 use Rattle.token_rule.specs.Calls.{Step, Run, Call, step, run, Done, goes, roomy, makes, run_cycles}
 use Rattle.token_rule.specs.TokenRule.{CallRule}
 
@@ -54,8 +53,7 @@ module _ (img : List ℕ) (a : Accepted img) (s : State) (ok : Fitting img s) (d
   unfolding number_of_step step_number makes goes roomy
   step-number x =
       rw (
-        accepts img a,
-        fits-fitting img a s ok,
+        ← (state_fitting img s a ok),
         cycles_test s d e ok.cycled,
         ltb_leb (length x.letters) (channels img),
         ltb_leb (length x.values) (channels img),
@@ -75,11 +73,11 @@ module _ (img : List ℕ) (a : Accepted img) (s : State) (ok : Fitting img s) (d
       let m = makes img d x in
       let zero : eqb (number_of_step img s x.word x.letters x.values) 0 ≡ m =
       ap (λ k. eqb k 0) (step-number x) ∙ chosen_zero m (not (ltb d 1000000)) (sets_above (nodes img) x.word) in
-      let number = ap (λ (r : Told). r.number) done.answered in
+      let number = ap (λ (r : StepTold). r.number) done.answered in
       record {
         numbered = number ∙ step-number x;
         made = ap (λ k. eqb k 0) number ∙ zero;
-        stated = ap (λ (r : Told). r.state) done.answered ∙ rw zero;
+        stated = ap (λ (r : StepTold). r.state) done.answered ∙ rw zero;
         lettered = done.lettered ∙ rw zero;
         valued = done.valued ∙ rw zero;
       }
@@ -96,7 +94,7 @@ ran_turn :
     (img : List ℕ) (s : State) (d w : ℕ) (words made : List ℕ) (r : RunTold) (p q : Bool) → ltb d 1000000 ≡ p
     → (p ≡ true → RanWell img (state_after img w s) (suc d) words made r)
     → RanWell img s d (w ∷ words) ((w ∷ made) if p && not q else [])
-    (record { steps = 0; number = 22; state = s } if not p else record { steps = 0; number = 12; state = s } if q else step_more r)
+    (no_step 22 s if not p else no_step 12 s if q else step_more r)
 unfolding after step_more
 ran_turn img s d w words made r false q e well = record { stepped = refl; stated = refl; numbered = rw (eqb-zero-suc, add-zero, e) }
 ran_turn img s d w words made r true true e well = record { stepped = refl; stated = refl; numbered = rw (eqb-zero-suc, add-zero, e) }
@@ -121,9 +119,9 @@ ran_well img (w ∷ words) s d e h =
 pub run-done :
     (img : List ℕ) → Accepted img → (s : State) → Fitting img s → (d : ℕ) → s.cycles ≡ d → (x : Run) → Done img s (run x)
     → RanWell img s d x.words (run_cycles img d x.words) x.answer
-unfolding Done run_answer
+unfolding Done
 run-done img a s ok d e x done =
-    rw (done.answered, accepts img a, fits-fitting img a s ok) (ran_well img x.words s d e (omega (arith, ok.cycled)))
+    rw (done.answered, ← (run-made img s x.words (state_fitting img s a ok))) (ran_well img x.words s d e (omega (arith, ok.cycled)))
 
 -- ---- what the rule says of each call
 pub call-rule :

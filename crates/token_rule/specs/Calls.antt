@@ -4,18 +4,17 @@ use Rattle.laws.specs.Choice.{◌if◌else◌}
 use Rattle.laws.specs.Lists.{one_if}
 use Rattle.image.specs.Image.{nodes, channels}
 use Rattle.state.specs.declared.State.{State}
-use Rattle.state.specs.Told.{Told}
 use Rattle.cycle.specs.Run.{RunTold}
 use Rattle.cycle.specs.Word.{sets_above}
 use Rattle.cycle.specs.Run.{RunDone}
-use Rattle.engine.specs.Answer.{StepDone}
+use Rattle.engine.specs.Answer.{StepTold, StepDone}
 
 -- a step of the list: its word, what its two lent arrays held, what it returned, and what they held after it
 pub record Step : Type 0 where
   pub word : ℕ
   pub letters : List ℕ
   pub values : List ℤ
-  pub answer : Told
+  pub answer : StepTold
   pub letters_left : List ℕ
   pub values_left : List ℤ
 

@@ -3,20 +3,20 @@ use Rattle.std.specs.Prelude.{true, false, List, [], ◌∷◌, ◌++◌, ◌≡
 use Rattle.std.proofs.Common.{⊎_elim, sym, ap, ap₂, subst, ◌∙◌, arith, eqb-true}
 use Rattle.laws.specs.Laws.Cases.{true_or_false}
 use Rattle.verdict.specs.Accepted.{Accepted}
-use Rattle.verdict.specs.Laws.Accepted.{accepted, accepts}
+use Rattle.verdict.specs.Laws.Accepted.{accepted}
 use Rattle.state.specs.declared.State.{State}
-use Rattle.state.specs.Told.{Told}
+use Rattle.state.specs.Told.{tells}
 use Rattle.state.specs.Fresh.{fresh_state}
 use Rattle.state.specs.Laws.Fresh.{fresh-made}
 use Rattle.fitting.specs.Fitting.{Fitting}
 use Rattle.fitting.specs.Laws.Fitting.{fitting-fresh}
-use Rattle.fitting.specs.Laws.Fits.{fits-fitting}
+use Rattle.fitting.specs.Laws.Number.{state_fitting}
 use Rattle.cycle.specs.Cycle.{state_after}
-use Rattle.cycle.specs.Run.{RunTold, run_answer}
+use Rattle.cycle.specs.Run.{run_answer}
 use Rattle.cycle.specs.Laws.Kept.{fitting-next}
 use Rattle.cycle.specs.Laws.Run.{run-made, ran_kept}
 use Rattle.cycle.specs.Laws.Ranged.{Ranged, ranged-fresh, ranged-next}
-use Rattle.engine.specs.Answer.{step_number, number_of_step, step_answer}
+use Rattle.engine.specs.Answer.{StepTold, stepped, step_number, number_of_step, step_answer}
 use Rattle.engine.specs.Laws.Answer.{number_ok}
 use Rattle.layout.specs.Bytes.{state_bytes, state_length, state_in}
 use Rattle.layout.proofs.Back.{state_back}
@@ -49,7 +49,7 @@ module _ (img : List ℕ) (a : Accepted img) (rest : List ℕ) where
 
   run_kept : (s : State) → Kept s → (words : List ℕ) → Kept (run_answer img s words).state
   run_kept s k words =
-      rw (← run-made img s words (accepts img a) (fits-fitting img a s k.0)) (ran_kept img Kept kept-next words s k)
+      rw (← run-made img s words (state_fitting img s a k.0)) (ran_kept img Kept kept-next words s k)
 
   -- bytes that begin with those of such a state are that state
   kept_back : (s : State) → Kept s → {bytes : List ℕ} → bytes ≡ state_bytes s ++ rest → state_in bytes ≡ s
@@ -65,7 +65,7 @@ module _ (img : List ℕ) (a : Accepted img) (rest : List ℕ) where
       let kept = step_kept s k x.word x.letters x.values in
       let e : state_in x.left ≡ answer.state = kept_back answer.state kept b.1 in (
         record {
-          answered = ap₂ {C = Told} (λ (n : ℕ) (t : State). record { number = n; state = t }) b.0 e;
+          answered = ap₂ {C = StepTold} stepped b.0 e;
           lettered = b.2.lettered;
           valued = b.2.valued;
         },
@@ -77,11 +77,7 @@ module _ (img : List ℕ) (a : Accepted img) (rest : List ℕ) where
       let b = run-back s (typed-fitting img a s k.0 k.1) rest d in
       let kept = run_kept s k x.words in
       let e : state_in x.left ≡ answer.state = kept_back answer.state kept b.2 in (
-        record {
-          answered =
-              ap₂ {C = RunTold} (λ (n m : ℕ). record { steps = n; number = m; state = state_in x.left }) b.1 b.0
-              ∙ ap (λ (t : State). record { steps = answer.steps; number = answer.number; state = t }) e;
-        },
+        record { answered = λ i. record { steps = b.1 i; number = b.0 i; state = e i } },
         b.2 ∙ ap (λ (t : State). state_bytes t ++ rest) (sym e),
         rw e kept,
       )
@@ -107,6 +103,6 @@ token_rule_c img old number left calls fresh z chain =
     let kept : Kept img a rest s = (fitting-fresh img a, ranged-fresh img a) in
     let same : state_in left ≡ s = kept_back img a rest s kept (b.1) in
     subst (λ (t : State). TokenRule img t (map on_state calls) (cycles_of img 0 (map on_state calls))) (sym same)
-    (token_rule img (record { number = 0; state = s }) (map on_state calls) b.0
+    (token_rule img (tells 0 s) (map on_state calls) b.0
     (record { answered = fresh-made img s b.0 refl })
     (chain_done img a rest calls s kept (rw (b.1) at chain)))

@@ -1,6 +1,7 @@
 -- A list of calls for C on the bytes of one state, with what each was given and what it answered and left; that each obeys its contract; and the calls
 -- on states that they are.
 use Rattle.std.specs.Prelude.{List, [], ◌∷◌, ℕ, ℤ}
+use Rattle.engine.specs.Answer.{stepped}
 use Rattle.layout.specs.Bytes.{state_in}
 use Rattle.capi.specs.Calls.{StepCall, RunCall}
 use Rattle.token_rule.specs.Calls.{Call, step, run}
@@ -50,7 +51,7 @@ on_state (step_bytes x) =
       word = x.word;
       letters = x.letters;
       values = x.values;
-      answer = record { number = x.number; state = state_in x.left };
+      answer = stepped x.number (state_in x.left);
       letters_left = x.letters_left;
       values_left = x.values_left;
     })

@@ -6,7 +6,8 @@ use Rattle.refusal.specs.Number.{number}
 use Rattle.state.specs.declared.Refused.{Refused}
 use Rattle.state.specs.declared.State.{State}
 use Rattle.cycle.specs.Cycle.{state_after}
-use Rattle.engine.specs.Answer.{step_number, state_number}
+use Rattle.fitting.specs.Fits.{state_number}
+use Rattle.engine.specs.Answer.{step_number}
 use Rattle.text.specs.Lines.{closing_text}
 use Rattle.writer.specs.Write.{written_answer, written_over, WriteTold, write_told}
 use Rattle.tracer.specs.declared.Lined.{Lined}

@@ -8,7 +8,8 @@
 ghost use Rattle.std.specs.Prelude.{◌≡◌, ◌≤◌, length};
 ghost use Rattle.laws.specs.Table.{table};
 ghost use Rattle.state.specs.State.{firings_at};
-ghost use Rattle.engine.specs.Answer.{step_number, state_number};
+ghost use Rattle.fitting.specs.Fits.{state_number};
+ghost use Rattle.engine.specs.Answer.{step_number};
 ghost use Rattle.refusal.specs.Number.{number_of};
 ghost use Rattle.text.specs.Lines.{reading_in};
 ghost use Rattle.writer.specs.Write.{write_told};

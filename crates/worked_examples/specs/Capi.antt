@@ -19,11 +19,10 @@ use Rattle.shell.specs.Queue.{waiting, queue_of, full}
 use Rattle.shell.specs.Channel.{blocked, arriving, input, stop_below, stop_above, channel_reading, channel_after}
 use Rattle.state.specs.State.{node_at, pending_at, station_at, queue_at, channel_in, state_of}
 use Rattle.state.specs.Fresh.{fresh_state}
-use Rattle.fitting.specs.Fits.{fits, cycles_fit}
+use Rattle.fitting.specs.Fits.{fits, cycles_fit, state_number}
 use Rattle.cycle.specs.Cycle.{input_at, blocked_at, all_ready, any_blocked, fires, node_after, channel_after_at, state_after, after}
 use Rattle.cycle.specs.Word.{stalled}
 use Rattle.worked_examples.specs.Engine.{stationed, stalls}
-use Rattle.engine.specs.Answer.{state_number}
 use Rattle.bench.specs.Bench.{bench_number}
 use Rattle.bench.specs.Bench as bench
 use Rattle.layout.specs.Bytes.{number_bytes, bits_of, token_bytes, node_bytes, station_bytes, queue_bytes, state_bytes}

@@ -26,15 +26,18 @@ use Rattle.shell.specs.Queue.{waiting, queue_of, full}
 use Rattle.shell.specs.Channel.{blocked, arriving, input, stop_below, stop_above, channel_reading, channel_after}
 use Rattle.state.specs.declared.State.{State}
 use Rattle.state.specs.State.{node_at, firings_at, pending_at, station_at, queue_at, channel_in, state_of}
+use Rattle.state.specs.Told.{tells}
 use Rattle.state.specs.Fresh.{fresh_state, fresh_answer, zeros}
 use Rattle.cycle.specs.Cycle.{input_at, blocked_at, reading_at, all_ready, any_blocked, fires, node_after, channel_after_at}
 use Rattle.cycle.specs.Cycle.{state_after, after, letters_of, values_of}
 use Rattle.fitting.specs.Fits.{cycles_fit, firings_fit, pending_fit, stations_fit, counts_fit, node_clear, pending_clear, station_clear, queue_clear}
-use Rattle.fitting.specs.Fits.{unused_clear, balanced, fits}
-use Rattle.cycle.specs.Run.{step_more, ran_from, run_answer}
+use Rattle.fitting.specs.Fits.{unused_clear, balanced, fits, state_number}
+use Rattle.fitting.specs.Laws.Number.{state_0}
+use Rattle.cycle.specs.Run.{no_step, step_more, ran_from, run_answer}
+use Rattle.cycle.specs.Laws.Run.{run-made}
 use Rattle.cycle.specs.Word.{stalled, sets_above}
 use Rattle.readings.specs.Shown.{shown_number, letters_shown, values_shown}
-use Rattle.engine.specs.Answer.{step_number, number_of_step, step_answer, letters_written, values_written}
+use Rattle.engine.specs.Answer.{stepped, step_number, number_of_step, step_answer, letters_written, values_written}
 use Rattle.engine.specs.Laws.Answer.{step-none, step-made}
 
 -- the readings of each cycle of a trace from a state on, and each node's firings after the last
@@ -118,7 +121,7 @@ traced = record { figure4_trace = refl; figure4-fired = refl; stationed_trace = 
 -- figure 4's state of so many cycles, with these firings, pending bytes, stations and queues, and nothing past a list's end
 abbrev state : ℕ → List ℕ → List ℕ → List Station → List Queue → State
 state cycles firings pending stations queues =
-    record {
+    record zeros {
       cycles = cycles;
       nodes = table (λ n. record { value = get_or (pos 10 ∷ pos 100 ∷ []) n (pos 0); firings = get_or firings n 0 }) 64;
       pending = padded 96 0 pending;
@@ -139,7 +142,7 @@ unfolding signed padded table nodes channels parameter depths stations station_o
 fresh-state = refl
 
 -- a refused call for a fresh state answers the judge's number beside zeros
-fresh_refused : fresh_answer (set figure4 2 0) ≡ record { number = 4; state = zeros }
+fresh_refused : fresh_answer (set figure4 2 0) ≡ tells 4 zeros
 unfolding judge nodes channels kind wire from to port depths stations depth inputs feeds
     bad_kind bad_wire bad_port fed_twice not_fed bad_stations bad_depth any_below sum_below fresh_answer
 fresh_refused = refl
@@ -221,12 +224,11 @@ step-sound :
     → step_number figure4 (at cycles) word letters values ≡
     (22 if eqb cycles 1000000 else 12 if sets_above 5 word else 13 if ltb letters 4 || ltb values 4 else 0)
 unfolding nodes channels step_number
-step-sound cycles word letters values e = rw (accepted, at-fits cycles e) refl
+step-sound cycles word letters values e = rw (← (state_0 figure4 (at cycles) accepted (at-fits cycles e)))
 
 -- what a run returns where image and state are sound
 run_sound : (cycles : ℕ) (words : List ℕ) → leb cycles 1000000 ≡ true → run_answer figure4 (at cycles) words ≡ ran_from figure4 (at cycles) words
-unfolding run_answer
-run_sound cycles words e = rw (accepted, at-fits cycles e) refl
+run_sound cycles words e = sym (run-made figure4 (at cycles) words (state_0 figure4 (at cycles) accepted (at-fits cycles e)))
 
 -- a lent array of six letters, each 7
 abbrev letters : List ℕ
@@ -249,10 +251,10 @@ record Answered : Type 0 where
   then_13 : (step_number figure4 (at 999999) 31 3 4 ≡ 13) × (step_number figure4 (at 999999) 31 4 3 ≡ 13)
   then_0 : step_number figure4 (at 999999) 31 4 4 ≡ 0
   -- a step writes four of six places; a refused one writes none
-  step-answer : record { number = 0; state = state_after figure4 1 (at 0) } ≡ step_answer figure4 (at 0) 1 letters values
+  step-answer : stepped 0 (state_after figure4 1 (at 0)) ≡ step_answer figure4 (at 0) 1 letters values
   step-letters : code "T" ∷ code "T" ∷ code "T" ∷ code "T" ∷ 7 ∷ 7 ∷ [] ≡ letters_written figure4 (at 0) 1 letters values
   step-values : pos 10 ∷ pos 100 ∷ pos 0 ∷ pos 0 ∷ pos 7 ∷ pos 7 ∷ [] ≡ values_written figure4 (at 0) 1 letters values
-  none-answer : record { number = 12; state = at 0 } ≡ step_answer figure4 (at 0) 32 letters values
+  none-answer : stepped 12 (at 0) ≡ step_answer figure4 (at 0) 32 letters values
   none-letters : letters ≡ letters_written figure4 (at 0) 32 letters values
   none-values : values ≡ values_written figure4 (at 0) 32 letters values
   -- letters and values are shown whatever the word; where an array is too short neither is
@@ -261,24 +263,24 @@ record Answered : Type 0 where
   shown_13 : shown_number figure4 (at 0) (7 ∷ 7 ∷ 7 ∷ []) values ≡ 13
   shown_none : (letters_shown figure4 (at 0) (7 ∷ 7 ∷ 7 ∷ []) values ≡ 7 ∷ 7 ∷ 7 ∷ []) × (values_shown figure4 (at 0) (7 ∷ 7 ∷ 7 ∷ []) values ≡ values)
   -- a run stops at a word that it cannot take, and keeps the cycles before it
-  run_12 : run_answer figure4 (at 0) (1 ∷ 0 ∷ 32 ∷ 0 ∷ []) ≡ record { steps = 2; number = 12; state = after figure4 (at 0) (1 ∷ 0 ∷ []) }
-  run_first : run_answer figure4 (at 0) (32 ∷ []) ≡ record { steps = 0; number = 12; state = at 0 }
-  run_22 : run_answer figure4 (at 999998) (1 ∷ 0 ∷ 32 ∷ []) ≡ record { steps = 2; number = 22; state = after figure4 (at 999998) (1 ∷ 0 ∷ []) }
-  run_0 : run_answer figure4 (at 999998) (1 ∷ 0 ∷ []) ≡ record { steps = 2; number = 0; state = after figure4 (at 999998) (1 ∷ 0 ∷ []) }
+  run_12 : run_answer figure4 (at 0) (1 ∷ 0 ∷ 32 ∷ 0 ∷ []) ≡ step_more (step_more (no_step 12 (after figure4 (at 0) (1 ∷ 0 ∷ []))))
+  run_first : run_answer figure4 (at 0) (32 ∷ []) ≡ no_step 12 (at 0)
+  run_22 : run_answer figure4 (at 999998) (1 ∷ 0 ∷ 32 ∷ []) ≡ step_more (step_more (no_step 22 (after figure4 (at 999998) (1 ∷ 0 ∷ []))))
+  run_0 : run_answer figure4 (at 999998) (1 ∷ 0 ∷ []) ≡ step_more (step_more (no_step 0 (after figure4 (at 999998) (1 ∷ 0 ∷ []))))
   run-cycles : ((after figure4 (at 0) (1 ∷ 0 ∷ [])).cycles ≡ 2) × ((after figure4 (at 999998) (1 ∷ 0 ∷ [])).cycles ≡ 1000000)
   -- with cycle count 1,000,000 a run takes no word, and without a word nothing is wrong
-  run_last : run_answer figure4 (at 1000000) (32 ∷ []) ≡ record { steps = 0; number = 22; state = at 1000000 }
-  run_none : run_answer figure4 (at 1000000) [] ≡ record { steps = 0; number = 0; state = at 1000000 }
+  run_last : run_answer figure4 (at 1000000) (32 ∷ []) ≡ no_step 22 (at 1000000)
+  run_none : run_answer figure4 (at 1000000) [] ≡ no_step 0 (at 1000000)
   -- a run looks at image and state first, also without a word
-  run_21 : run_answer figure4 (at 1000001) [] ≡ record { steps = 0; number = 21; state = at 1000001 }
-  run_image : run_answer (set figure4 2 0) (at 1000001) [] ≡ record { steps = 0; number = 4; state = at 1000001 }
+  run_21 : run_answer figure4 (at 1000001) [] ≡ no_step 21 (at 1000001)
+  run_image : run_answer (set figure4 2 0) (at 1000001) [] ≡ no_step 4 (at 1000001)
 
 answered : Answered
 unfolding any_below sum_below padded table nodes channels kind wire from to port feeds depths stations depth inputs
     judge bad_kind bad_wire bad_port fed_twice not_fed bad_stations bad_depth
     letter reading held leaving waiting queue_of full arriving stop_below channel_reading
     node_at pending_at station_at queue_at channel_in state_of reading_at state_after after letters_of values_of
-    cycles_fit fits sets_above shown_number letters_shown values_shown step_number number_of_step step_more ran_from run_answer
+    cycles_fit fits state_number sets_above shown_number letters_shown values_shown step_number number_of_step step_more ran_from run_answer
 answered =
     let step = step-made figure4 (at 0) 1 letters values 0 (sym (step-sound 0 1 6 6 refl)) refl in
     let none = step-none figure4 (at 0) 32 letters values 12 (sym (step-sound 0 32 6 6 refl)) (λ e. omega arith) in

@@ -17,7 +17,9 @@ use Rattle.shell.specs.Channel.{blocked, arriving, input, stop_below, stop_above
 use Rattle.state.specs.State.{node_at, pending_at, station_at, queue_at, channel_in, state_of}
 use Rattle.state.specs.Fresh.{fresh_state, zeros}
 use Rattle.cycle.specs.Cycle.{input_at, blocked_at, reading_at, all_ready, any_blocked, fires, node_after, channel_after_at, state_after}
+use Rattle.cycle.specs.Run.{no_step}
 use Rattle.cycle.specs.Word.{stalled, sets_above}
+use Rattle.engine.specs.Answer.{stepped}
 use Rattle.token_rule.specs.Cycles.{fired_in, arrivals}
 use Rattle.token_rule.specs.Calls.{Call, step, run, goes, roomy, makes, run_cycles, cycles_in, cycles_of}
 use Rattle.token_rule.specs.Progress.{most_stations, Awake}
@@ -32,13 +34,13 @@ asked w letters values =
       word = w;
       letters = replicate letters 0;
       values = replicate values (pos 0);
-      answer = record { number = 0; state = zeros };
+      answer = stepped 0 zeros;
       letters_left = [];
       values_left = [];
     }
 
 abbrev told : List ℕ → Call
-told words = run record { words = words; answer = record { steps = 0; number = 0; state = zeros } }
+told words = run record { words = words; answer = no_step 0 zeros }
 
 -- figure 4 has 5 nodes and 4 channels. A step makes its cycle; a word with bit 5, an array of 3 places, and the rest of a run after such a word make
 -- none; the list goes on. The last cycle is the 1,000,000th

@@ -22,10 +22,10 @@ use Rattle.state.specs.State.{node_at, pending_at, station_at, queue_at, channel
 use Rattle.state.specs.declared.State.{State}
 use Rattle.state.specs.Fresh.{fresh_state, zeros}
 use Rattle.fitting.specs.Fits.{cycles_fit, firings_fit, pending_fit, stations_fit, counts_fit, node_clear, pending_clear, station_clear, queue_clear}
-use Rattle.fitting.specs.Fits.{unused_clear, balanced, fits}
+use Rattle.fitting.specs.Fits.{unused_clear, balanced, fits, state_number}
 use Rattle.cycle.specs.Cycle.{input_at, blocked_at, reading_at, all_ready, any_blocked, fires, node_after, channel_after_at, state_after, after}
 use Rattle.cycle.specs.Word.{stalled, sets_above}
-use Rattle.engine.specs.Answer.{step_number, state_number}
+use Rattle.engine.specs.Answer.{step_number}
 use Rattle.worked_examples.specs.Engine.{words, stationed, stalls}
 use Rattle.text.specs.Ascii.{ascii}
 use Rattle.text.specs.Decimal.{places, decimal, signed_text}

@@ -2,7 +2,7 @@
 use Rattle.std.specs.Prelude.{true, false, List, ◌++◌, ◌≡◌, ℕ, ◌≤◌, ◌<◌, ℤ, length, drop, Result}
 use Rattle.std.proofs.Common.{true≢false, ◌∙◌, arith}
 use Rattle.std.proofs.Math.Logic.{⊎_elim}
-use Rattle.std.proofs.Math.Path.{sym, ap}
+use Rattle.std.proofs.Math.Path.{refl, sym, ap}
 use Rattle.std.proofs.Math.Decide.{ℕ_discrete}
 use borrow.Author.Tests.{eqb-true, eqb-false, ne_eqb}
 use Rattle.std.proofs.Math.Dec.{eqb, ltb}
@@ -11,13 +11,15 @@ use Rattle.laws.specs.Laws.Cases.{true_or_false, lt-or-ge}
 use Rattle.laws.specs.Choice.{◌if◌else◌}
 use Rattle.verdict.specs.Judge.{judge}
 use Rattle.state.specs.declared.State.{State}
-use Rattle.fitting.specs.Fits.{fits, cycles_fit}
+use Rattle.fitting.specs.Fits.{fits, cycles_fit, state_number}
+use Rattle.fitting.specs.Laws.Number.{state_ok}
 use Rattle.state.specs.Fresh.{fresh_answer, FreshDone}
 use Rattle.cycle.specs.Cycle.{state_after}
 use Rattle.state.specs.Told.{Told}
 use Rattle.cycle.specs.Run.{RunTold}
-use Rattle.engine.specs.Answer.{step_number, number_of_step, step_answer, state_number, StepDone}
-use Rattle.engine.specs.Laws.Answer.{number_ok, state_ok, run_none}
+use Rattle.engine.specs.Answer.{StepTold, step_number, number_of_step, step_answer, StepDone}
+use Rattle.engine.specs.Laws.Answer.{number_ok}
+use Rattle.cycle.specs.Laws.Run.{run_none}
 use Rattle.cycle.specs.Run.{RunDone}
 use Rattle.refusal.specs.Number.{number_of}
 use Rattle.refusal.specs.declared.Refusal.{Refusal}
@@ -88,11 +90,11 @@ module _ (old : List ℕ) {img : List ℕ} {answer : Told} (d : FreshDone img an
 
 -- ---- a step
 module _
-    (bytes : List ℕ) {img : List ℕ} {word : ℕ} {letters : List ℕ} {values : List ℤ} {answer : Told} {letters_left : List ℕ} {values_left : List ℤ}
+    (bytes : List ℕ) {img : List ℕ} {word : ℕ} {letters : List ℕ} {values : List ℤ} {answer : StepTold} {letters_left : List ℕ} {values_left : List ℤ}
     (d : StepDone img (state_in bytes) word letters values answer letters_left values_left) where
   step-number : answer.number ≡ number_of_step img (state_in bytes) word letters values
   unfolding step_answer
-  step-number = ap (λ (a : Told). a.number) d.answered
+  step-number = ap (λ (a : StepTold). a.number) d.answered
 
   step-sized : answer.number ≡ 0 → state_length ≤ length bytes
   unfolding number_of_step
@@ -104,7 +106,7 @@ module _
   unfolding state_left step_answer
   step-called z w =
       let l = stored answer.state w (step-sized z) in
-      let t : answer.state ≡ state_after img word (state_in bytes) = ap (λ (a : Told). a.state) d.answered ∙ rw (sym step-number ∙ z) in
+      let t : answer.state ≡ state_after img word (state_in bytes) = ap (λ (a : StepTold). a.state) d.answered ∙ rw (sym step-number ∙ z) in
       record {
         numbered = l.0 ∙ sym z ∙ step-number;
         changed = l.1 ∙ rw (l.0, t);
@@ -124,7 +126,7 @@ module _ (bytes : List ℕ) {img words : List ℕ} {answer : RunTold} (d : RunDo
     where
       at : Dec (state_number img (state_in bytes) ≡ 0) → state_length ≤ length bytes
       at (yes e) = sized img bytes e
-      at (no n) = absurd (h (ap (λ (a : RunTold). a.steps) (d.answered ∙ sym (run_none img (state_in bytes) words n))))
+      at (no n) = absurd (h (ap (λ (a : RunTold). a.steps) (d.answered ∙ sym (run_none img (state_in bytes) words _ refl n))))
 
   pub run-called :
       {written : Result ℕ Refusal} {left : List ℕ} → (answer.steps ≡ 0 → ⊥) → WriteDone (state_bytes answer.state) bytes written left

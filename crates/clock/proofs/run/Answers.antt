@@ -1,14 +1,14 @@
 -- `clock::run` meets its contract. Assumes nothing.
-use Rattle.std.proofs.Common.{◌≡◌, ℕ, ◌≤◌, ◌+◌, length, take, sym, ap, ◌∙◌, arith, length-take}
+use Rattle.std.proofs.Common.{◌≡◌, ℕ, ◌≤◌, ◌+◌, length, sym, ap, ◌∙◌, arith, length-take}
 use Rattle.image.specs.Image.{nodes}
 use Rattle.verdict.specs.Laws.Accepted.{accepted}
 use Rattle.state.specs.declared.State.{State}
 use Rattle.fitting.specs.Fitting.{Fitting}
 use Rattle.fitting.specs.Laws.Fits.{fitting}
+use Rattle.fitting.specs.Laws.Number.{state_21, state_0}
 use Rattle.fitting.proofs.Shape.{shaped}
-use Rattle.cycle.specs.Cycle.{after}
-use Rattle.cycle.specs.Laws.Run.{run_21, run-made, ran_taken, taken_few}
-use Rattle.cycle.specs.Loops.Taken.{TakenTold, taken_from}
+use Rattle.cycle.specs.Laws.Run.{run_none, run-made, ran_taken, taken_few}
+use Rattle.cycle.specs.Loops.Taken.{TakenTold, taken_from, ran_by}
 use Rattle.clock.specs.Loops.Told.{taken_told}
 use Rattle.clock.proofs.run.Goals.{Then-fits, After-words_taken-taken}
 use Rattle.clock.proofs.run.Goals as goal
@@ -16,7 +16,8 @@ use Rattle.clock.proofs.run.Goals as goal
 pub returns-else-fits : goal.returns-else-fits
 returns-else-fits c =
     let n = c.args.netlist in
-    record { answered = run_21 n.image.now c.args.state c.args.words.now n.accepted (sym c.fits.ensures ∙ c.if-fits.false) }
+    let e = state_21 n.image.now c.args.state n.accepted (sym c.fits.ensures ∙ c.if-fits.false) in
+    record { answered = run_none n.image.now c.args.state c.args.words.now 21 e (λ z. absurd (omega (arith, z))) }
 
 fit : (c : Then-fits) → Fitting c.args.netlist.image.now c.args.state
 fit c =
@@ -70,7 +71,7 @@ returns-then-fits c =
     t.ensures ∙ ap (λ (n : ℕ). taken_from n a.state.cycles words) c.nodes.ensures.value in
     record {
       answered =
-          ap (λ (x : State). record { steps = t.result.steps; number = (taken_told t.result).number; state = x }) c.cycles.ensures
-          ∙ ap (λ (u : TakenTold). record { steps = u.steps; number = u.number; state = after img a.state (take u.steps words) }) k
-          ∙ ran_taken img words a.state ∙ run-made img a.state words a.netlist.accepted (sym c.fits.ensures ∙ c.if-fits.true);
+          ap (λ (x : State). record (ran_by img a.state words (taken_told t.result)) { state = x }) c.cycles.ensures
+          ∙ ap (ran_by img a.state words) k ∙ ran_taken img words a.state
+          ∙ run-made img a.state words (state_0 img a.state a.netlist.accepted (sym c.fits.ensures ∙ c.if-fits.true));
     }

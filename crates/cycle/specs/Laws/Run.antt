@@ -1,23 +1,23 @@
 -- What each way out of a run answers, and which cycles a run makes. Assumes nothing.
-use Rattle.std.specs.Prelude.{Bool, List, [], ◌∷◌, eqb, length, drop, take, get_or}
+use Rattle.std.specs.Prelude.{Bool, List, [], ◌∷◌, eqb, length, drop, get_or}
 use Rattle.std.proofs.Math.Bool.{true, false, true≢false}
 use Rattle.std.proofs.Math.Path.{◌≡◌, refl, sym}
 use Rattle.std.proofs.Common.{ap, ◌∙◌, add-zero, zero-add, drop_of_length-le, drop-cons}
 use Prim.Native.Nat.{ℕ, suc, ◌+◌, ◌<◌, ◌≤◌}
+use Rattle.std.proofs.Math.Decide.{ℕ_discrete}
 use Rattle.std.proofs.Math.Numerals.{add-one}
 use native.Mathlib.Omega.{arith}
 use borrow.Author.Tests.{eq-eqb, ne_eqb}
 use Rattle.laws.specs.Choice.{◌if◌else◌}
 use Rattle.image.specs.Image.{nodes}
-use Rattle.verdict.specs.Judge.{judge}
 use Rattle.state.specs.declared.State.{State}
 use Rattle.state.specs.State.{state_of}
 use Rattle.cycle.specs.Cycle.{state_after, after}
 use Rattle.cycle.specs.Laws.Cycle.{cycles-next}
-use Rattle.fitting.specs.Fits.{fits}
-use Rattle.cycle.specs.Run.{RunTold, step_more, ran_from, run_answer}
+use Rattle.fitting.specs.Fits.{state_number}
+use Rattle.cycle.specs.Run.{RunTold, no_step, step_more, ran_from, run_answer}
 use Rattle.cycle.specs.Word.{sets_above}
-use Rattle.cycle.specs.Loops.Taken.{TakenTold, take_more, taken_from, taken_after}
+use Rattle.cycle.specs.Loops.Taken.{TakenTold, taken, take_more, taken_from, taken_after, ran_by}
 
 -- ---- the run: the loop over its words, from the first on
 pub taken_first : (n d : ℕ) (words : List ℕ) → taken_from n d words ≡ taken_after n d words 0
@@ -25,7 +25,7 @@ unfolding taken_after
 taken_first n d words = rw (add-zero, zero-add)
 
 -- a run all of whose words were found good takes them all
-pub taken_all : (n d : ℕ) (words : List ℕ) (i : ℕ) → length words ≤ i → taken_after n d words i ≡ record { steps = i; number = 0 }
+pub taken_all : (n d : ℕ) (words : List ℕ) (i : ℕ) → length words ≤ i → taken_after n d words i ≡ taken i 0
 unfolding taken_after taken_from
 taken_all n d words i h = rw (drop_of_length-le words h, add-zero)
 
@@ -33,17 +33,17 @@ module _ (n d : ℕ) (words : List ℕ) (i : ℕ) (h : i < length words) where
   -- which words a run takes, by the word at place i
   next_word :
       taken_after n d words i ≡
-      (let t = record { steps = 0; number = 22 } if eqb (d + i) 1000000 else
-      record { steps = 0; number = 12 } if sets_above n (get_or words i 0) else
+      (let t = taken 0 22 if eqb (d + i) 1000000 else
+      taken 0 12 if sets_above n (get_or words i 0) else
       take_more (taken_from n (suc (d + i)) (drop (suc i) words)) in
-      record { steps = i + t.steps; number = t.number })
+      record t { steps = i + t.steps })
   unfolding taken_after taken_from
   next_word = rw (drop-cons words i 0 h)
 
-  pub taken_22 : d + i ≡ 1000000 → taken_after n d words i ≡ record { steps = i; number = 22 }
+  pub taken_22 : d + i ≡ 1000000 → taken_after n d words i ≡ taken i 22
   taken_22 e = next_word ∙ rw (eq-eqb (d + i) 1000000 e, add-zero)
 
-  pub taken_12 : (d + i ≡ 1000000 → ⊥) → sets_above n (get_or words i 0) ≡ true → taken_after n d words i ≡ record { steps = i; number = 12 }
+  pub taken_12 : (d + i ≡ 1000000 → ⊥) → sets_above n (get_or words i 0) ≡ true → taken_after n d words i ≡ taken i 12
   taken_12 e w = next_word ∙ rw (ne_eqb (d + i) 1000000 e, w, add-zero)
 
   pub taken_next : (d + i ≡ 1000000 → ⊥) → sets_above n (get_or words i 0) ≡ false → taken_after n d words i ≡ taken_after n d words (i + 1)
@@ -66,7 +66,7 @@ taken_few n d (word ∷ words) h = go (eqb d 1000000) (sets_above n word) refl (
 
     go :
         (a b : Bool) → eqb d 1000000 ≡ a → (suc d ≤ 1000000 → (t.steps ≤ length words) × (suc d + t.steps ≤ 1000000))
-        → let u = record { steps = 0; number = 22 } if a else record { steps = 0; number = 12 } if b else take_more t in
+        → let u = taken 0 22 if a else taken 0 12 if b else take_more t in
         (u.steps ≤ suc (length words)) × (d + u.steps ≤ 1000000)
     go true b e r = (omega arith, omega arith)
     go false true e r = (omega arith, omega arith)
@@ -78,8 +78,7 @@ taken_few n d (word ∷ words) h = go (eqb d 1000000) (sets_above n word) refl (
 -- a run is told by the words that it takes and the state after their cycles
 pub ran_taken :
     (img : List ℕ) (words : List ℕ) (s : State)
-    → let t = taken_from (nodes img) s.cycles words in
-    record { steps = t.steps; number = t.number; state = after img s (take t.steps words) } ≡ ran_from img s words
+    → ran_by img s words (taken_from (nodes img) s.cycles words) ≡ ran_from img s words
 unfolding taken_from ran_from after take_more step_more state_after state_of
 ran_taken img [] s = refl
 ran_taken img (word ∷ words) s = go (eqb s.cycles 1000000) (sets_above (nodes img) word) (ran_taken img words (state_after img word s))
@@ -88,12 +87,9 @@ ran_taken img (word ∷ words) s = go (eqb s.cycles 1000000) (sets_above (nodes 
     t = taken_from (nodes img) (suc s.cycles) words
 
     go :
-        (a b : Bool) → record { steps = t.steps; number = t.number; state = after img (state_after img word s) (take t.steps words) }
-        ≡ ran_from img (state_after img word s) words
-        → let u = record { steps = 0; number = 22 } if a else record { steps = 0; number = 12 } if b else take_more t in
-        record { steps = u.steps; number = u.number; state = after img s (take u.steps (word ∷ words)) } ≡
-        (record { steps = 0; number = 22; state = s } if a else record { steps = 0; number = 12; state = s } if b else
-        step_more (ran_from img (state_after img word s) words))
+        (a b : Bool) → ran_by img (state_after img word s) words t ≡ ran_from img (state_after img word s) words
+        → ran_by img s (word ∷ words) (taken 0 22 if a else taken 0 12 if b else take_more t) ≡
+        (no_step 22 s if a else no_step 12 s if b else step_more (ran_from img (state_after img word s) words))
     go true b e = refl
     go false true e = refl
     go false false e = ap step_more e
@@ -109,8 +105,7 @@ ran_kept img P next (word ∷ words) s p =
   where
     go :
         (a b : Bool) → eqb s.cycles 1000000 ≡ a → ((s.cycles ≡ 1000000 → ⊥) → P (ran_from img (state_after img word s) words).state)
-        → P (record { steps = 0; number = 22; state = s } if a else record { steps = 0; number = 12; state = s } if b else
-        step_more (ran_from img (state_after img word s) words)).state
+        → P (no_step 22 s if a else no_step 12 s if b else step_more (ran_from img (state_after img word s) words)).state
     go true b e r = p
     go false true e r = p
     go false false e r = r (λ q. true≢false (sym (eq-eqb s.cycles 1000000 q) ∙ e))
@@ -124,23 +119,30 @@ ran_rise img (word ∷ words) s = go (eqb s.cycles 1000000) (sets_above (nodes i
     go :
         (a b : Bool) → (ran_from img (state_after img word s) words).state.cycles ≡
         (state_after img word s).cycles + (ran_from img (state_after img word s) words).steps
-        → let r = ◌if◌else◌ {A = RunTold} (record { steps = 0; number = 22; state = s }) a
-        (◌if◌else◌ {A = RunTold} (record { steps = 0; number = 12; state = s }) b (step_more (ran_from img (state_after img word s) words))) in
+        → let r = no_step 22 s if a else no_step 12 s if b else step_more (ran_from img (state_after img word s) words) in
         r.state.cycles ≡ s.cycles + r.steps
     go true b e = sym (add-zero s.cycles)
     go false true e = sym (add-zero s.cycles)
     go false false e = e ∙ rw (cycles-next img word s) (omega arith)
 
--- what a run returns: where the judge refuses the image, where the state does not fit it, and where it takes its words
+-- what a run returns: where image or state is refused, and where it takes its words
 module _ (img : List ℕ) (s : State) (words : List ℕ) where
-  pub run_judged : (judge img ≡ 0 → ⊥) → record { steps = 0; number = judge img; state = s } ≡ run_answer img s words
+  pub run_none : (number : ℕ) → number ≡ state_number img s → (number ≡ 0 → ⊥) → no_step number s ≡ run_answer img s words
   unfolding run_answer
-  run_judged n = rw (ne_eqb (judge img) 0 n)
+  run_none number e n = rw (← e, ne_eqb number 0 n)
 
-  pub run_21 : judge img ≡ 0 → fits img s ≡ false → record { steps = 0; number = 21; state = s } ≡ run_answer img s words
+  pub run-made : 0 ≡ state_number img s → ran_from img s words ≡ run_answer img s words
   unfolding run_answer
-  run_21 j e = rw (j, e)
+  run-made e = rw (← e)
 
-  pub run-made : judge img ≡ 0 → fits img s ≡ true → ran_from img s words ≡ run_answer img s words
-  unfolding run_answer
-  run-made j e = rw (j, e)
+  -- a run that makes no step returns the state that it was handed
+  pub run_still : (run_answer img s words).steps ≡ 0 → (run_answer img s words).state ≡ s
+  unfolding after
+  run_still z = at (ℕ_discrete (state_number img s) 0)
+    where
+      at : Dec (state_number img s ≡ 0) → (run_answer img s words).state ≡ s
+      at (no n) = sym (ap (λ (a : RunTold). a.state) (run_none _ refl n))
+      at (yes e) =
+          let r = ran_taken img words s ∙ run-made (sym e) in
+          let t : (taken_from (nodes img) s.cycles words).steps ≡ 0 = ap (λ (a : RunTold). a.steps) r ∙ z in
+          sym (ap (λ (a : RunTold). a.state) r) ∙ rw t

@@ -62,7 +62,7 @@ module _ (img : List ℕ) (word : ℕ) (s : State) where
   -- the state whose channels below c, and stations below place i, are as after the cycle; its cycle count and nodes are given
   unfoldable pub moved_below : ℕ → List Node → ℕ → ℕ → State
   moved_below cycles nodes c i =
-      record {
+      record s {
         cycles = cycles;
         nodes = nodes;
         pending = table_over pending_after_at c s.pending;

@@ -46,16 +46,6 @@ use Rattle.cycle.specs.Loops.PartsLaws.{link_in, stop_in, link_source, link_abov
 use Rattle.cycle.specs.Loops.PartsLaws.{starved_turn, blocked_turn, brought_turn, station_turn, pending_turn, queue_turn, gate_turn, taken_turn}
 use Rattle.cycle.specs.Loops.PartsLaws.{row_skip, cycle_done}
 
--- a state with another node n
-abbrev pub with_node : State → ℕ → Node → State
-with_node t n node =
-    record { cycles = t.cycles; nodes = set t.nodes n node; pending = t.pending; stations = t.stations; queues = t.queues }
-
--- a state with another queue of channel c
-abbrev pub with_queue : State → ℕ → Queue → State
-with_queue t c queue =
-    record { cycles = t.cycles; nodes = t.nodes; pending = t.pending; stations = t.stations; queues = set t.queues c queue }
-
 -- a table over the first n places of an array, with the next entry set, is the table over n + 1 places
 pub written :
     {A : Type 0} (f : ℕ → A) (n : ℕ) (old : List A) → n < length old → (l : List A) → l ≡ table_over f n old → (x : A) → x ≡ f n
@@ -181,8 +171,7 @@ module _ (img : List ℕ) (a : Accepted img) (s : State) (fit : Fitting img s) (
     pub row_turn :
         (cycles : ℕ) (ns : List Node) (j : ℕ) → j < wire.stations → (t : State) → t ≡ moved_below img w s cycles ns c (8 * c + j)
         → (next : Station) → next ≡ station_after_at img w s (8 * c + j)
-        → record { cycles = t.cycles; nodes = t.nodes; pending = t.pending; stations = set t.stations (8 * c + j) next; queues = t.queues } ≡
-        moved_below img w s cycles ns c (8 * c + (j + 1))
+        → record t { stations = set t.stations (8 * c + j) next } ≡ moved_below img w s cycles ns c (8 * c + (j + 1))
     unfolding wire_at moved_below
     row_turn cycles ns j l t q next p =
         let r : wire.stations ≡ stations img c = ap (λ (w : Wire). w.stations) e in
@@ -232,11 +221,10 @@ module _ (img : List ℕ) (a : Accepted img) (s : State) (fit : Fitting img s) (
     -- one turn of the loop over the channels: channel c has moved
     pub channel_turn :
         (cycles : ℕ) (ns : List Node) (t u : State) → t ≡ moved_below img w s cycles ns c (8 * c + wire.stations)
-        → ((queue : Queue) × (queue ≡ queue_after_at img w s c) × (u ≡ with_queue t c queue)) ⊎
+        → ((queue : Queue) × (queue ≡ queue_after_at img w s c) × (u ≡ record t { queues = set t.queues c queue })) ⊎
         ((u ≡ t) × (queue_after_at img w s c ≡ get_or s.queues c no_queue))
         → (pending : ℕ) → pending ≡ pending_after_at img w s c
-        → record { cycles = u.cycles; nodes = u.nodes; pending = set u.pending c pending; stations = u.stations; queues = u.queues } ≡
-        moved_below img w s cycles ns (c + 1) (8 * (c + 1))
+        → record u { pending = set u.pending c pending } ≡ moved_below img w s cycles ns (c + 1) (8 * (c + 1))
     unfolding wire_at moved_below
     channel_turn cycles ns t u q came pending m =
         let r : wire.stations ≡ stations img c = ap (λ (w : Wire). w.stations) e in
@@ -244,13 +232,7 @@ module _ (img : List ℕ) (a : Accepted img) (s : State) (fit : Fitting img s) (
         let few : c < length s.queues = omega (arith, queues_long img s fit a, a.few_channels) in
         let k :
         u ≡
-        record {
-          cycles = cycles;
-          nodes = ns;
-          pending = table_over (pending_after_at img w s) c s.pending;
-          stations = table_over (station_after_at img w s) (8 * c + stations img c) s.stations;
-          queues = table_over (queue_after_at img w s) (suc c) s.queues;
-        } =
+        record (moved_below img w s cycles ns c (8 * c + stations img c)) { queues = table_over (queue_after_at img w s) (suc c) s.queues } =
         ⊎_elim
         (λ z. z.2 ∙ rw (z.1, q, r, over_set (queue_after_at img w s) c s.queues few))
         (λ z. z.0 ∙ rw (q, r, over_same_at (queue_after_at img w s) no_queue c s.queues few z.1))
@@ -280,7 +262,7 @@ module _ (img : List ℕ) (a : Accepted img) (s : State) (fit : Fitting img s) (
 
   pub gated_turn :
       (t u : State) (was now : List Bool) → t ≡ moved_below img w s s.cycles (nodes_below img w s n) 0 0 → was ≡ fires_below img w s n
-      → ((fires img w s n ≡ true) × ((node : Node) × (node ≡ node_after img w s n) × (u ≡ with_node t n node)) × (now ≡ set was n true)) ⊎
+      → ((fires img w s n ≡ true) × ((node : Node) × (node ≡ node_after img w s n) × (u ≡ record t { nodes = set t.nodes n node })) × (now ≡ set was n true)) ⊎
       ((fires img w s n ≡ false) × (u ≡ t) × (now ≡ was))
       → (u ≡ moved_below img w s s.cycles (nodes_below img w s (n + 1)) 0 0) × (now ≡ fires_below img w s (n + 1))
   unfolding moved_below nodes_below fires_below
@@ -302,7 +284,7 @@ module _ (img : List ℕ) (a : Accepted img) (s : State) (fit : Fitting img s) (
 pub cycle_turn :
     (img : List ℕ) (w : ℕ) (s : State) → Fitting img s → (t : State)
     → t ≡ moved_below img w s s.cycles (nodes_below img w s (nodes img)) (channels img) (8 * channels img)
-    → record { cycles = s.cycles + 1; nodes = t.nodes; pending = t.pending; stations = t.stations; queues = t.queues } ≡ state_after img w s
+    → record t { cycles = s.cycles + 1 } ≡ state_after img w s
 unfolding moved_below
 cycle_turn img w s fit t e = rw (e, add-one) (cycle_done img w s fit)
 

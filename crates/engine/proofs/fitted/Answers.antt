@@ -2,16 +2,15 @@
 use Rattle.std.proofs.Common.{rules, ◌≡◌, sym, ap, ◌∙◌, arith}
 use Rattle.refusal.specs.Laws.Number.{number_positive}
 use Rattle.fitting.specs.Fits.{fits}
-use Rattle.engine.specs.Laws.Answer.{state-judge, state_21, state_0}
+use Rattle.fitting.specs.Laws.Number.{state-judge, state_21, state_0}
 use Rattle.engine.proofs.fitted.Goals.{After-fits}
 use Rattle.engine.proofs.fitted.Goals as goal
 
 pub returns-in_err-netlist-clause-number : goal.returns-in_err-netlist-clause-number
 returns-in_err-netlist-clause-number c =
     let r = c.in_err-netlist.field-0.0 in
-    let e = c.in_err-netlist.ensures.number in
     let p = number_positive r in
-    let h = e ∙ state-judge c.args.image.now c.args.state.now (λ z. absurd (omega (arith, e, z, p))) in
+    let h = state-judge c.args.image.now c.args.state.now _ c.in_err-netlist.ensures.number (λ z. absurd (omega (arith, z, p))) in
     rw (sym h) (search rules)
 
 -- the netlist is the image's

@@ -2,16 +2,16 @@
 use Rattle.std.proofs.Common.{◌≡◌, refl, List, [], ◌∷◌, ℕ, Option, sym, ap, ◌∙◌, arith, ne_eqb}
 use Rattle.std.specs.Prelude.{ℤ, Bool, eqb}
 use Rattle.laws.specs.Choice.{◌if◌else◌}
-use Rattle.verdict.specs.Judge.{judge}
 use Rattle.refusal.specs.Number.{number, number_if}
 use Rattle.refusal.specs.Laws.Number.{number_positive}
 use Rattle.refusal.specs.declared.Refusal.{Refusal}
 use Rattle.state.specs.declared.State.{State}
+use Rattle.fitting.specs.Laws.Number.{state-judge}
 use Rattle.cycle.specs.Run.{RunTold, run_answer}
 use Rattle.clock.specs.Told.{run_told}
 use Rattle.readings.specs.Shown.{ShownDone}
-use Rattle.engine.specs.Answer.{number_of_step, StepDone}
-use Rattle.engine.specs.Laws.Answer.{step-none, number-judge, run-none, run-shown}
+use Rattle.engine.specs.Answer.{stepped, number_of_step, StepDone}
+use Rattle.engine.specs.Laws.Answer.{number_first, step-none, run-none, run-shown}
 use Rattle.engine.proofs.step.Goals.{In-Ok, After-run-ran, After-show}
 use Rattle.engine.proofs.step.Goals as goal
 
@@ -22,7 +22,7 @@ positive r e = let p = number_positive r in absurd (omega (arith, e, p))
 -- a step that is refused returns the state that it was handed, and has written nothing
 refused :
     (img : List ℕ) (s : State) (word : ℕ) (letters : List ℕ) (values : List ℤ) (r : Refusal) → number r ≡ number_of_step img s word letters values
-    → StepDone img s word letters values (record { number = number r; state = s }) letters values
+    → StepDone img s word letters values (stepped (number r) s) letters values
 refused img s word letters values r e =
     let n = step-none img s word letters values (number r) e (positive r) in
     record { answered = n.0; lettered = n.1; valued = n.2 }
@@ -31,9 +31,9 @@ pub returns-in-Err : goal.returns-in-Err
 returns-in-Err c =
     let a = c.args in
     let r = c.in-Err.refusal in
-    let e : number r ≡ judge a.image.now = c.in-Err.ensures.number in
+    let e = state-judge a.image.now a.state (number r) c.in-Err.ensures.number (positive r) in
     refused a.image.now a.state a.word a.letters.now a.values.now r
-    (e ∙ number-judge a.image.now a.state a.word a.letters.now a.values.now (λ z. positive r (e ∙ z)))
+    (number_first a.image.now a.state a.word a.letters.now a.values.now (number r) e (positive r))
 
 same : (c : In-Ok) → c.in-Ok.netlist.image.now ≡ c.args.image.now
 same c = ap (λ r. r.now) c.in-Ok.ensures.same
@@ -56,7 +56,7 @@ returns-in-Some c =
 shown : (c : After-show) (number : ℕ) (next : State)
     → ShownDone c.in-Ok.netlist.image.now c.args.state c.args.letters.now c.args.values.now number c.show.new.letters c.show.new.values
     → next ≡ (c.run-ran.result.state if eqb number 0 else c.args.state)
-    → StepDone c.args.image.now c.args.state c.args.word c.args.letters.now c.args.values.now (record { number = number; state = next })
+    → StepDone c.args.image.now c.args.state c.args.word c.args.letters.now c.args.values.now (stepped number next)
     c.show.new.letters c.show.new.values
 shown c number next d e =
     let a = c.args in

@@ -244,13 +244,7 @@ module _ (img : List ℕ) (a : Accepted img) (s : State) (shape : Shaped s) (p :
   all_written : s ≡ state_of img s.cycles (node_at s) (channel_in img s)
   unfolding state_of
   all_written =
-      λ i. record {
-        cycles = s.cycles;
-        nodes = nodes_written i;
-        pending = pending_written i;
-        stations = stations_written i;
-        queues = queues_written i;
-      }
+      λ i. record s { nodes = nodes_written i; pending = pending_written i; stations = stations_written i; queues = queues_written i }
 
   few_held : (c : ℕ) → c < channels img → (j : ℕ) → length (get_or (channel_in img s c).row j []) ≤ 2
   few_held c h j =

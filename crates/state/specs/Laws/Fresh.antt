@@ -1,6 +1,6 @@
 -- The fresh state: what its nodes and channels are; and how it is filled, node by node and channel by channel. Assumes nothing.
 use Rattle.std.specs.Prelude.{List, [], ◌∷◌, ◌++◌, ◌≡◌, ℕ, zero, suc, ◌*◌, ◌/◌, ◌%◌, ◌<◌, ℤ, get_or, set, replicate}
-use Rattle.std.proofs.Math.Path.{refl, ap}
+use Rattle.std.proofs.Math.Path.{refl, ap, ap₂}
 use Rattle.std.proofs.Common.{◌∙◌, arith, ne_eqb}
 use Rattle.std.proofs.lemmas.List.{length-replicate}
 use Rattle.laws.specs.Lists.{padded}
@@ -18,7 +18,7 @@ use Rattle.shell.specs.Queue.{queue_of}
 use Rattle.shell.specs.Channel.{tokens}
 use Rattle.state.specs.declared.Node.{Node}
 use Rattle.state.specs.declared.State.{State}
-use Rattle.state.specs.Told.{Told}
+use Rattle.state.specs.Told.{tells}
 use Rattle.state.specs.State.{no_node, node_at, firings_at, channel_in, state_of}
 use Rattle.state.specs.Laws.State.{node_of, channel_of}
 use Rattle.state.specs.Fresh.{fresh_node, fresh_channel, fresh_state, zeros, fresh_answer}
@@ -55,13 +55,7 @@ module _ (img : List ℕ) (a : Accepted img) (c : ℕ) (h : c < channels img) wh
 -- the state in which the first n nodes are filled in and the first c channels are pending, and the rest is 0
 unfoldable pub filled : List ℕ → ℕ → ℕ → State
 filled img n c =
-    record {
-      cycles = 0;
-      nodes = padded 64 no_node (table (fresh_node img) n);
-      pending = padded 96 0 (table (λ k. 1) c);
-      stations = replicate 768 (station_of []);
-      queues = replicate 96 (queue_of []);
-    }
+    record zeros { nodes = padded 64 no_node (table (fresh_node img) n); pending = padded 96 0 (table (λ k. 1) c) }
 
 module _ (img : List ℕ) where
   pub filled_none : zeros ≡ filled img 0 0
@@ -71,27 +65,19 @@ module _ (img : List ℕ) where
   -- one more node is filled in, and one more channel is pending
   pub filled_node :
       (n c : ℕ) → n < 64 → (s : State) → s ≡ filled img n c → (v : ℤ) → v ≡ parameter img n
-      → record {
-        cycles = s.cycles;
-        nodes = set s.nodes n (record { value = v; firings = 0 });
-        pending = s.pending;
-        stations = s.stations;
-        queues = s.queues;
-      }
-      ≡ filled img (suc n) c
+      → record s { nodes = set s.nodes n (record { value = v; firings = 0 }) } ≡ filled img (suc n) c
   unfolding filled
   filled_node n c h s e v q = rw (e, q, padded-table (fresh_node img) n 64 no_node h)
 
   pub filled_pending :
       (n c : ℕ) → c < 96 → (s : State) → s ≡ filled img n c
-      → record { cycles = s.cycles; nodes = s.nodes; pending = set s.pending c 1; stations = s.stations; queues = s.queues }
-      ≡ filled img n (suc c)
+      → record s { pending = set s.pending c 1 } ≡ filled img n (suc c)
   unfolding filled
   filled_pending n c h s e = rw (e, padded-table {A = ℕ} (λ k. 1) c 96 0 h)
 
   -- with all nodes filled in and all channels pending it is the fresh state
   pub filled_all : Accepted img → filled img (nodes img) (channels img) ≡ fresh_state img
-  unfolding filled fresh_state state_of
+  unfolding filled zeros fresh_state state_of
   filled_all a =
       rw (
         padded_same (λ i. station_of (get_or (replicate (stations img (i / 8)) []) (i % 8) [])) (8 * channels img) 768 (station_of [])
@@ -103,18 +89,17 @@ module _ (img : List ℕ) where
 -- a state of zeros, from an empty station and an empty queue
 pub zeros_of :
     (station : Station) (queue : Queue) → station ≡ station_of [] → queue ≡ queue_of []
-    → record { cycles = 0; nodes = replicate 64 no_node; pending = replicate 96 0; stations = replicate 768 station; queues = replicate 96 queue }
-    ≡ zeros
+    → record zeros { stations = replicate 768 station; queues = replicate 96 queue } ≡ zeros
 unfolding zeros
-zeros_of station queue e q = rw (e, q)
+zeros_of station queue e q = ap₂ {C = State} (λ a b. record zeros { stations = replicate 768 a; queues = replicate 96 b }) e q
 
 -- what a call for a fresh state answers, by the judge's number: refused, or not
 pub fresh_refused :
     (img : List ℕ) (number : ℕ) (s : State) → number ≡ judge img → s ≡ zeros → (judge img ≡ 0 → ⊥)
-    → ◌≡◌ {A = Told} (record { number = number; state = s }) (fresh_answer img)
+    → tells number s ≡ fresh_answer img
 unfolding fresh_answer
 fresh_refused img number s e z ne = rw (e, z, ne_eqb (judge img) 0 ne)
 
-pub fresh-made : (img : List ℕ) (s : State) → judge img ≡ 0 → s ≡ fresh_state img → ◌≡◌ {A = Told} (record { number = 0; state = s }) (fresh_answer img)
+pub fresh-made : (img : List ℕ) (s : State) → judge img ≡ 0 → s ≡ fresh_state img → tells 0 s ≡ fresh_answer img
 unfolding fresh_answer
 fresh-made img s e z = rw (z, e)

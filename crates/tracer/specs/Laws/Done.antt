@@ -17,9 +17,10 @@ use Rattle.verdict.specs.Laws.Accepted.{accepted}
 use Rattle.state.specs.declared.State.{State}
 use Rattle.state.specs.State.{firings_at}
 use Rattle.cycle.specs.Cycle.{reading_at, state_after, letters_of, values_of}
-use Rattle.state.specs.Told.{Told}
-use Rattle.engine.specs.Answer.{step_number, number_of_step, step_answer, letters_written, values_written, state_number, StepDone}
-use Rattle.engine.specs.Laws.Answer.{number_ok, state_ok}
+use Rattle.fitting.specs.Fits.{state_number}
+use Rattle.fitting.specs.Laws.Number.{state_ok}
+use Rattle.engine.specs.Answer.{StepTold, step_number, number_of_step, step_answer, letters_written, values_written, StepDone}
+use Rattle.engine.specs.Laws.Answer.{number_ok}
 use Rattle.text.specs.Lines.{line_text, closing_text, reading_in}
 use Rattle.writer.specs.Write.{written_answer, WriteDone, WriteTold, write_told}
 use Rattle.writer.specs.Laws.Write.{told_ok}
@@ -28,11 +29,11 @@ use Rattle.tracer.specs.Done.{LineTold, line_answer, line_over, LineDone, closin
 
 -- ---- a step that is lent 96 places
 module _
-    {img : List ℕ} {s : State} {word : ℕ} {letters : List ℕ} {values : List ℤ} {stepped : Told} {letters_left : List ℕ} {values_left : List ℤ}
+    {img : List ℕ} {s : State} {word : ℕ} {letters : List ℕ} {values : List ℤ} {stepped : StepTold} {letters_left : List ℕ} {values_left : List ℤ}
     (d : StepDone img s word letters values stepped letters_left values_left) (l : length letters ≡ 96) (v : length values ≡ 96) where
   pub step-number : stepped.number ≡ step_number img s word 96 96
   unfolding step_answer number_of_step
-  step-number = ap (λ (a : Told). a.number) d.answered ∙ rw (l, v)
+  step-number = ap (λ (a : StepTold). a.number) d.answered ∙ rw (l, v)
 
   -- the image was accepted, and the first C places have the cycle's letters and values
   module _ (e : stepped.number ≡ 0) where
@@ -47,7 +48,7 @@ module _
 
     pub step-state : stepped.state ≡ state_after img word s
     unfolding step_answer
-    step-state = ap (λ (a : Told). a.state) d.answered ∙ rw zero_of
+    step-state = ap (λ (a : StepTold). a.state) d.answered ∙ rw zero_of
 
     -- each channel's letter and value in the lent arrays are the channel's reading
     step_reading : (c : ℕ) → c < channels img → reading_in letters_left values_left c ≡ reading_at img s c
@@ -74,7 +75,7 @@ module _
   pub step_refused : (stepped.number ≡ 0 → ⊥) → stepped.state ≡ s
   unfolding step_answer number_of_step
   step_refused n =
-      ap (λ (a : Told). a.state) d.answered
+      ap (λ (a : StepTold). a.state) d.answered
       ∙ rw (l, v, ne_eqb (step_number img s word 96 96) 0 (λ q. n (step-number ∙ q)))
 
 -- ---- a cycle's line

@@ -7,11 +7,12 @@ use Rattle.verdict.specs.Laws.Accepted.{accepted}
 use Rattle.state.specs.Fresh.{fresh_state}
 use Rattle.state.specs.Laws.Fresh.{fresh-cycles}
 use Rattle.fitting.specs.Laws.Fitting.{fitting-fresh}
-use Rattle.fitting.specs.Laws.Fits.{fits-fitting}
+use Rattle.fitting.specs.Fits.{state_number}
+use Rattle.fitting.specs.Laws.Number.{state_fitting}
 use Rattle.cycle.specs.Cycle.{after}
 use Rattle.cycle.specs.Laws.After.{cycles-after, fitting-after}
-use Rattle.engine.specs.Answer.{step_number, state_number}
-use Rattle.engine.specs.Laws.Answer.{state_0, number_last}
+use Rattle.engine.specs.Answer.{step_number}
+use Rattle.engine.specs.Laws.Answer.{number_last}
 use Rattle.trace_input.specs.Input.{image_of, words_of, input_number}
 use Rattle.trace_input.specs.Laws.Input.{input-accepted, words_few, words_below}
 
@@ -25,14 +26,13 @@ module _ (input : List ℕ) (e : input_number input (length input) ≡ 0) where
   -- the state after the first k words has number 0, and k cycles are done
   state_taken : (k : ℕ) → k ≤ length words → let s = after img (fresh_state img) (take k words) in (state_number img s ≡ 0) × (s.cycles ≡ k)
   state_taken k h =
-      let j = input-accepted input e in
-      let a = accepted img j in
+      let a = accepted img (input-accepted input e) in
       let few : length (take k words) ≡ k = length-take-le k words h in
       let fit =
       fitting-after img a (take k words) (fresh_state img) (fitting-fresh img a) (omega (arith, fresh-cycles img, few, words_few input e)) in
       let count : (after img (fresh_state img) (take k words)).cycles ≡ k =
       omega (arith, cycles-after img (fresh_state img) (take k words), fresh-cycles img, few) in
-      (sym (state_0 img _ j (fits-fitting img a _ fit)), count)
+      (sym (state_fitting img _ a fit), count)
 
   -- the step with word k is not refused
   pub step_taken :
