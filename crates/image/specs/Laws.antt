@@ -1,3 +1,2 @@
 -- What others use in place of the definitions' texts.
 pub mod Alike
-pub mod Image

@@ -2,7 +2,8 @@
 use Rattle.std.specs.Prelude.{List, [], ◌∷◌, ◌++◌, ◌≡◌, refl, ℕ, zero, suc, ◌+◌, ◌*◌, pos, negsuc, set, take, replicate}
 use Rattle.laws.specs.Below.{any_below, sum_below}
 use Rattle.laws.specs.Signed.{signed}
-use Rattle.image.specs.Image.{feeds, nodes, channels, kind, parameter, wire, from, to, port, depths, stations, depth, inputs}
+use Rattle.kinds.specs.Kinds.{inputs}
+use Rattle.image.specs.Image.{feeds, nodes, channels, kind, parameter, wire, from, to, port, depths, stations, depth}
 use Rattle.image.specs.Loops.Ports.{ports_below}
 use Rattle.verdict.specs.Judge.{judge, bad_kind, bad_wire, bad_port, fed_twice, not_fed, bad_stations, bad_depth}
 
