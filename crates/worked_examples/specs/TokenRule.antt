@@ -5,7 +5,7 @@ use Rattle.laws.specs.Signed.{signed}
 use Rattle.laws.specs.Lists.{padded}
 use Rattle.laws.specs.Table.{table}
 use Rattle.kinds.specs.Kinds.{exact}
-use Rattle.image.specs.Image.{nodes, channels, kind, parameter, wire, from, to, port, feeds, depths, stations, depth}
+use Rattle.image.specs.Image.{nodes, channels, kind, parameter, wire, from, to, port, feeds, depths, stations, depth, most_stations}
 use Rattle.worked_examples.specs.Netlist.{figure4, ring}
 use Rattle.pearl.specs.Wrap.{wrap}
 use Rattle.pearl.specs.Next.{next_value}
@@ -21,7 +21,7 @@ use Rattle.cycle.specs.Cycle.{input_at, blocked_at, reading_at, all_ready, any_b
 use Rattle.cycle.specs.Word.{stalled, sets_above}
 use Rattle.token_rule.specs.Cycles.{fired_in, arrivals}
 use Rattle.token_rule.specs.Calls.{Call, step, run, goes, roomy, makes, run_cycles, cycles_in, cycles_of}
-use Rattle.token_rule.specs.Progress.{most_stations, Awake}
+use Rattle.token_rule.specs.Progress.{Awake}
 use Rattle.token_rule_c.specs.Calls.{CallBytes, step_bytes, run_bytes, on_state}
 
 -- ---- the cycles of a list
