@@ -44,10 +44,11 @@ kinds =
     ∷ line 3 (λ s a b c. choose a b c)  -- 9, choose
     ∷ []
 
--- "kind not 1 to 9"
+-- the largest number of a kind
 abbrev pub last_kind : ℕ
 last_kind = 9
 
+-- "kind not 1 to 9"
 abbrev pub no_kind : ℕ → Bool
 no_kind kind = outside 1 last_kind kind
 

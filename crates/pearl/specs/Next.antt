@@ -10,6 +10,6 @@ use Rattle.pearl.specs.Wrap.{wrap}
 unfoldable pub next_value : ℕ → ℤ → ℤ → ℤ → ℤ → ℤ
 next_value kind s a b c = wrap (exact kind s a b c)
 
--- the next value by any number: a number that is no kind has the refusal of a "kind not 1 to 9"
+-- the next value by any number: one that is no kind is refused
 unfoldable pub next : ℕ → ℤ → ℤ → ℤ → ℤ → Result ℤ Refusal
 next kind s a b c = Err NoKind if no_kind kind else Ok (next_value kind s a b c)

@@ -6,7 +6,7 @@ use Rattle.laws.specs.Range.{outside}
 use Rattle.kinds.specs.Kinds.{no_kind, inputs}
 use Rattle.image.specs.Image.{nodes, channels, kind, from, to, port, feeds, stations, depth}
 
--- whether number 4 has a cause at node n: "kind not 1 to 9"
+-- whether number 4 has a cause at node n: its kind is none of the table
 unfoldable pub bad_kind : List ℕ → ℕ → Bool
 bad_kind img n = no_kind (kind img n)
 
