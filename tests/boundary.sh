@@ -41,7 +41,7 @@ verdict "the numbers of crate refusal" "$(apart \
     "$(sed -nE 's/^    ([A-Za-z]+) = ([0-9]+),$/Refused_\1 \2/p' crates/refusal/src/lib.rt | capitals)")"
 verdict "the kinds of crate pearl" "$(apart \
     "$(grep -E '^KIND_' <<< "$header_names")" \
-    "$(sed -nE 's/^ +([1-9]) => Ok\(Kind::([A-Z][a-z]+)\),$/Kind_\2 \1/p' crates/pearl/src/lib.rt | capitals)")"
+    "$(sed -nE 's/^ +([0-9]+) => Ok\(Kind::([A-Z][a-z]+)\),$/Kind_\2 \1/p' crates/pearl/src/lib.rt | capitals)")"
 verdict "a number that tests/boundary/numbers.c does not provoke" "$(apart \
     "$(grep -oE '^(REFUSED_[A-Z_]+|ACCEPTED)' <<< "$header_names")" \
     "$(sed -nE 's/^    NUMBER\(CHANNEL_BENCH_(REFUSED_[A-Z_]+|ACCEPTED), .*/\1/p' tests/boundary/numbers.c | sort -u)")"

@@ -13,23 +13,20 @@
 //
 // `cycles` is one function because a state that is handed on is copied (docs/PERFORMANCE.md). What it
 // calls is small: the leaves of `pearl`, `relay` and `shell`, `fired` and `stalls`. The image is decoded
-// once a call, into wires (`wires_of`) and kinds (`node::kinds_of`).
+// once a call, into wires (`Netlist::wires`) and kinds (`node::kinds_of`).
 #![tactic(auto)]
 
 ghost use Rattle.std.specs.Prelude.{◌≡◌, suc, ◌+◌, ◌<◌, ◌≤◌, length};
-ghost use Rattle.image.specs.Image.{channels};
 ghost use Rattle.pearl.specs.Kind.{kind_byte};
 ghost use Rattle.pearl.specs.Next.{next_value};
 ghost use Rattle.cycle.specs.Cycle.{after};
 ghost use Rattle.cycle.specs.Run.{RunDone};
 ghost use Rattle.cycle.specs.Word.{stalled, sets_above};
 ghost use Rattle.fitting.specs.Fitting.{Fitting};
-ghost use Rattle.cycle.specs.Loops.Parts.{wires_below};
 ghost use Rattle.cycle.specs.Loops.Taken.{taken_from};
 ghost use Rattle.clock.specs.Told.{run_told};
 ghost use Rattle.clock.specs.Loops.Told.{taken_told};
 
-use image::Wire;
 use netlist::Netlist;
 use pearl::Kind;
 use refusal::Refusal;
@@ -73,26 +70,6 @@ fn fired(node: Node, kind: Kind, a: i32, b: i32, c: i32) -> Node
     }
 }
 
-// The wires of all channels, zeros past the last. By index, since the netlist is asked for each channel
-// by its number.
-fn wires_of(netlist: Netlist) -> [Wire; 96]
-    ensures { result ≡ wires_below netlist.entry.image.now (channels netlist.entry.image.now) }
-{
-    // By hand: only this array wants a wire of zeros, and its definition names them.
-    let none = Wire {
-        from: 0,
-        to: 0,
-        port: 0,
-        stations: 0,
-        depth: 0,
-    };
-    let mut wires = [none; 96];
-    for c in 0..netlist.channels() {
-        wires[c as usize] = netlist.wire(c);
-    }
-    wires
-}
-
 // Leaves in `state` the state after one cycle for each of `words`, in order, given a state that fits the
 // netlist's image and no more words than cycles are left. Each cycle is worked from the state at its
 // start, `old`, and written to `state`. It is one function because a state that is handed to another is
@@ -115,7 +92,7 @@ fn cycles(netlist: Netlist, state: &mut State, words: &[u64])
 {
     let nodes = netlist.nodes() as usize;
     let channels = netlist.channels() as usize;
-    let wires = wires_of(netlist);
+    let wires = netlist.wires();
     let kinds = node::kinds_of(netlist);
     for &word in words {
         let old = *state;

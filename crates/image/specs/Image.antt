@@ -1,5 +1,6 @@
 -- The image: N and C, two parallel arrays for nodes, two for channels. An image is the list of its bytes; past its end a field reads 0.
-use Rattle.std.specs.Prelude.{Bool, ◌&&◌, List, [], ◌∷◌, ℕ, ◌+◌, ◌*◌, ◌^◌, eqb, ℤ, get_or}
+use Rattle.std.specs.Prelude.{Bool, ◌&&◌, List, ℕ, ◌+◌, ◌*◌, ◌^◌, eqb, ℤ, get_or}
+use Rattle.laws.specs.Below.{most_below}
 use Rattle.laws.specs.Signed.{signed}
 
 -- "Sizes first: one byte N (nodes), one byte C (channels)."
@@ -47,11 +48,10 @@ stations img c = get_or img (depths img c) 0
 unfoldable pub depth : List ℕ → ℕ → ℕ
 depth img c = get_or img (depths img c + 1) 0
 
+-- "R is the largest station count on any channel, or 0 without channels."
+unfoldable pub most_stations : List ℕ → ℕ
+most_stations img = most_below (stations img) (channels img)
+
 -- "The length is 2 + 5N + 5C.": how many bytes an image has by its own N and C
 abbrev pub length_due : List ℕ → ℕ
 length_due img = 2 + 5 * nodes img + 5 * channels img
-
--- how many inputs kind k has, the column "inputs" of the table of kinds: count 0; hold, total, negate and halve 1; sum, difference and larger 2;
--- choose 3. Place 0 is no kind.
-unfoldable pub inputs : ℕ → ℕ
-inputs k = get_or (0 ∷ 0 ∷ 1 ∷ 1 ∷ 1 ∷ 1 ∷ 2 ∷ 2 ∷ 2 ∷ 3 ∷ []) k 0

@@ -1,3 +1,3 @@
 -- What others use in place of the definitions' texts.
 pub mod Alike
-pub mod Image
+pub mod Readers

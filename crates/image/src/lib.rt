@@ -7,7 +7,7 @@ ghost use Rattle.laws.specs.Signed.{signed};
 ghost use Rattle.image.specs.Image.{nodes, channels, kind, four_bytes, length_due};
 ghost use Rattle.image.specs.Readers.{core_at, wire_at};
 
-// A node's fields. The kind is a number: 1 to 9 in an accepted image, any byte in another.
+// A node's fields. The kind is a number: that of a kind in an accepted image, any byte in another.
 #[derive(Clone, Copy)]
 pub struct Core {
     pub kind: u8,

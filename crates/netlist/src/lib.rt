@@ -18,7 +18,7 @@ pub struct Netlist<'a> {
 impl<'a> Netlist<'a> {
     ghost use Rattle.std.specs.Prelude.{◌≤◌, ◌<◌, IfOk};
     ghost use Rattle.image.specs.Image.{nodes, channels};
-    ghost use Rattle.image.specs.Readers.{core_at, wire_at, Placed};
+    ghost use Rattle.image.specs.Readers.{core_at, wire_at, wires, Placed};
 
     // Returns the image as a netlist, given one that the judge accepts; given any other, the judge's
     // refusal, 1 to 11.
@@ -62,5 +62,26 @@ impl<'a> Netlist<'a> {
         ensures placed { c < channels self.entry.image.now → Placed result }
     {
         image::wire_at(self.image, c)
+    }
+
+    // Returns the fields of all channels, each at the place of its number, and zeros past the last: for
+    // whoever reads them often. By index, since the image is asked for each channel by its number.
+    #[tactic(auto, unfolding(image::specs::Readers::wires))]
+    pub fn wires(self) -> [Wire; 96]
+        ensures { result ≡ wires self.entry.image.now }
+    {
+        // By hand: only this array wants a wire of zeros, and its definition names them.
+        let none = Wire {
+            from: 0,
+            to: 0,
+            port: 0,
+            stations: 0,
+            depth: 0,
+        };
+        let mut wires = [none; 96];
+        for c in 0..self.channels() {
+            wires[c as usize] = self.wire(c);
+        }
+        wires
     }
 }

@@ -1,8 +1,8 @@
 -- The kinds of cores, and their numbers.
 use Rattle.std.specs.Prelude.{true, Result, MatchResult, ◌≡◌, ℕ}
-use Rattle.laws.specs.Range.{outside}
 use Rattle.refusal.specs.declared.Refusal.{Refusal}
 use Rattle.refusal.specs.declared.Refusal.TheVariants.{Kind as NoKind}
+use Rattle.kinds.specs.Kinds.{no_kind}
 use Rattle.pearl.specs.declared.Kind.{Kind}
 use Rattle.pearl.specs.declared.Kind.TheVariants.{Count, Hold, Total, Negate, Halve, Sum, Difference, Larger, Choose}
 
@@ -20,4 +20,4 @@ kind_byte Choose = 9
 
 -- what a number is read as: the kind that has it, or the refusal of a number that no kind has
 abbrev pub Decodes : ℕ → Result Kind Refusal → Type 0
-Decodes number r = MatchResult r (λ kind. kind_byte kind ≡ number) (λ refusal. (refusal ≡ NoKind) × (outside 1 9 number ≡ true))
+Decodes number r = MatchResult r (λ kind. kind_byte kind ≡ number) (λ refusal. (refusal ≡ NoKind) × (no_kind number ≡ true))

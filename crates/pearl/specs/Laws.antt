@@ -1,4 +1,3 @@
 -- What others use in place of the definitions' texts.
 pub mod Kind
 pub mod Wrap
-pub mod Next

@@ -5,9 +5,10 @@ use Rattle.laws.specs.Below.{all_below, any_below, pick_below}
 use Rattle.laws.specs.Signed.{signed}
 use Rattle.laws.specs.Lists.{holds, padded}
 use Rattle.laws.specs.Table.{table}
+use Rattle.kinds.specs.Kinds.{halve, larger, choose, exact}
 use Rattle.image.specs.Image.{nodes, channels, kind, parameter}
 use Rattle.pearl.specs.Wrap.{wrap}
-use Rattle.pearl.specs.Next.{halve, larger, choose, exact, next_value}
+use Rattle.pearl.specs.Next.{next_value}
 use Rattle.node.specs.Node.{port_value, next_of}
 use Rattle.relay.specs.declared.Station.{Station}
 use Rattle.relay.specs.Link.{Link, token, link_of, passing, letter, reading}

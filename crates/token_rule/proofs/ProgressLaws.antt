@@ -5,7 +5,7 @@ use Rattle.std.proofs.Math.Logic.{⊎_elim}
 use Rattle.std.proofs.Common.{not-suc-le-zero, arith}
 use Rattle.laws.specs.Laws.Below.{most-at}
 use Rattle.laws.specs.Laws.Cases.{true_or_false}
-use Rattle.image.specs.Image.{nodes, channels, from, to, stations}
+use Rattle.image.specs.Image.{nodes, channels, from, to, stations, most_stations}
 use Rattle.verdict.specs.Accepted.{Accepted}
 use Rattle.state.specs.declared.State.{State}
 use Rattle.state.specs.State.{firings_at}
@@ -17,7 +17,7 @@ use Rattle.cycle.specs.Word.{stalled}
 use Rattle.cycle.specs.Laws.Cycle.{firings_next}
 use Rattle.cycle.specs.Laws.Kept.{steady-next}
 use Rattle.token_rule.specs.Cycles.{fired_in}
-use Rattle.token_rule.specs.Progress.{most_stations, Furthest, Awake}
+use Rattle.token_rule.specs.Progress.{Furthest, Awake}
 
 stations-most : (img : List ℕ) (c : ℕ) → c < channels img → stations img c ≤ most_stations img
 unfolding most_stations

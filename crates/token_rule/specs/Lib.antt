@@ -1,4 +1,4 @@
--- Defines the token rule: what a list of cycles does, the calls and the cycles they make, R, and the statement; `proofs/TokenRuleLaws` proves it.
+-- Defines the token rule: what a list of cycles does, the calls and the cycles they make, and the statement; `proofs/TokenRuleLaws` proves it.
 pub mod Cycles
 pub mod Calls
 pub mod Given

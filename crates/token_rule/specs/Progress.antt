@@ -1,15 +1,10 @@
 -- The words of the token rule's last part: "wherever R + 1 cycles of the list follow one another, every node furthest behind in firings at their
 -- start, and stalled in none of them, fires at least once in them."
 use Rattle.std.specs.Prelude.{false, List, [], ◌∷◌, ◌≡◌, ℕ, ◌<◌, ◌≤◌}
-use Rattle.laws.specs.Below.{most_below}
-use Rattle.image.specs.Image.{nodes, channels, stations}
+use Rattle.image.specs.Image.{nodes}
 use Rattle.state.specs.declared.State.{State}
 use Rattle.state.specs.State.{firings_at}
 use Rattle.cycle.specs.Word.{stalled}
-
--- "R is the largest station count on any channel, or 0 without channels."
-unfoldable pub most_stations : List ℕ → ℕ
-most_stations img = most_below (stations img) (channels img)
 
 -- "Furthest behind are the nodes with the least firings of all N.": n is one of them
 abbrev pub Furthest : List ℕ → State → ℕ → Type 0

@@ -3,7 +3,7 @@
 use Rattle.std.specs.Prelude.{true, not, List, ◌∷◌, ◌++◌, ◌↔◌, ◌≢◌, ◌≡◌, ℕ, suc, ◌+◌, ◌<◌, ◌≤◌, eqb, ltb, length, drop}
 use Rattle.laws.specs.Choice.{◌if◌else◌}
 use Rattle.laws.specs.Table.{table}
-use Rattle.image.specs.Image.{nodes, channels}
+use Rattle.image.specs.Image.{nodes, channels, most_stations}
 use Rattle.strict.specs.Strict.{strict, stream}
 use Rattle.state.specs.declared.State.{State}
 use Rattle.state.specs.State.{value_at, firings_at}
@@ -11,7 +11,7 @@ use Rattle.cycle.specs.Cycle.{letters_of, values_of, after}
 use Rattle.cycle.specs.Word.{sets_above}
 use Rattle.token_rule.specs.Cycles.{fired_in, arrivals}
 use Rattle.token_rule.specs.Calls.{Step, Run, Call, step, run, last_state, makes, run_cycles, cycles_of}
-use Rattle.token_rule.specs.Progress.{most_stations, Awake}
+use Rattle.token_rule.specs.Progress.{Awake}
 
 -- ---- one call, which was handed the state s after d cycles of the list
 module _ (img : List ℕ) (d : ℕ) (s : State) where

@@ -3,11 +3,12 @@ use Rattle.std.specs.Prelude.{Bool, not, ◌||◌, List, ℕ, ◌+◌, ◌*◌, 
 use Rattle.laws.specs.Below.{any_below, sum_below}
 use Rattle.laws.specs.Choice.{◌if◌else◌}
 use Rattle.laws.specs.Range.{outside}
-use Rattle.image.specs.Image.{nodes, channels, kind, from, to, port, feeds, stations, depth, inputs}
+use Rattle.kinds.specs.Kinds.{no_kind, inputs}
+use Rattle.image.specs.Image.{nodes, channels, kind, from, to, port, feeds, stations, depth}
 
--- whether number 4 has a cause at node n: "kind not 1 to 9"
+-- whether number 4 has a cause at node n: its kind is none of the table
 unfoldable pub bad_kind : List ℕ → ℕ → Bool
-bad_kind img n = outside 1 9 (kind img n)
+bad_kind img n = no_kind (kind img n)
 
 -- whether number 5 has a cause at channel c: "wire names a node not there"
 unfoldable pub bad_wire : List ℕ → ℕ → Bool

@@ -5,34 +5,22 @@ ghost use Rattle.std.specs.Prelude.{◌≡◌, IfOk};
 ghost use Rattle.laws.specs.Below.{any_below, sum_below};
 ghost use Rattle.laws.specs.Choice.{◌if◌else◌};
 ghost use Rattle.refusal.specs.Number.{number_of};
-ghost use Rattle.image.specs.Image.{channels, stations, inputs};
+ghost use Rattle.image.specs.Image.{channels, stations};
 ghost use Rattle.verdict.specs.Judge.{bad_kind, bad_wire, bad_port, bad_stations, bad_depth, judge};
 ghost use Rattle.image.specs.Loops.Ports.{Wired};
 ghost use Rattle.verdict.specs.Laws.Clear.{Sized};
 ghost use Rattle.verdict.specs.Loops.Passes.{depth_number, fed_below, twice_below, misses};
 
 use image::{channels, kind_at, nodes, wire_at};
+use kinds::{inputs, no_kind};
 use refusal::Refusal;
-
-// How many inputs each kind has, by its number, and 0 for what is no kind: the judge asks before it
-// knows that a number is a kind, and needs no pearls.
-const INPUTS: [u8; 10] = [0, 0, 1, 1, 1, 1, 2, 2, 2, 3];
-
-// How many inputs a node of a kind has, 0 for a number that is no kind.
-#[tactic(auto, unfolding(image::specs::Image::inputs))]
-fn inputs(kind: u8) -> u8
-    ensures { result ≡ inputs kind }
-{
-    INPUTS.get(kind as usize).copied().unwrap_or(0)
-}
 
 // Whether number 4 has a cause at node n.
 #[tactic(auto, unfolding(crate::specs::Judge::bad_kind))]
 fn bad_kind(image: &[u8], n: u8) -> bool
     ensures { result ≡ bad_kind image.now n }
 {
-    let kind = kind_at(image, n);
-    (kind < 1) | (9 < kind)
+    no_kind(kind_at(image, n))
 }
 
 // Whether number 5 has a cause at channel c.

@@ -2,7 +2,8 @@
 use Rattle.std.specs.Prelude.{List, [], ◌∷◌, ◌++◌, ◌≡◌, refl, ℕ, zero, suc, ◌+◌, ◌*◌, pos, negsuc, set, take, replicate}
 use Rattle.laws.specs.Below.{any_below, sum_below}
 use Rattle.laws.specs.Signed.{signed}
-use Rattle.image.specs.Image.{feeds, nodes, channels, kind, parameter, wire, from, to, port, depths, stations, depth, inputs}
+use Rattle.kinds.specs.Kinds.{last_kind, inputs}
+use Rattle.image.specs.Image.{feeds, nodes, channels, kind, parameter, wire, from, to, port, depths, stations, depth}
 use Rattle.image.specs.Loops.Ports.{ports_below}
 use Rattle.verdict.specs.Judge.{judge, bad_kind, bad_wire, bad_port, fed_twice, not_fed, bad_stations, bad_depth}
 
@@ -61,7 +62,7 @@ pub record Judged : Type 0 where
   pub at_3_short : judge (take 46 figure4) ≡ 3
   pub at_3_long : judge (figure4 ++ (0 ∷ [])) ≡ 3
   pub at_4_low : judge (set figure4 2 0) ≡ 4
-  pub at_4_high : judge (set figure4 6 10) ≡ 4
+  pub at_4_high : judge (set figure4 6 (last_kind + 1)) ≡ 4
   pub at_5_from : judge (set figure4 27 5) ≡ 5
   pub at_5_to : judge (set figure4 28 5) ≡ 5
   pub at_6 : judge (set figure4 29 2) ≡ 6
@@ -75,7 +76,7 @@ pub record Judged : Type 0 where
   pub at_10_none : judge (set figure4 40 0) ≡ 10
   pub at_10_deep : judge (set figure4 46 9) ≡ 10
   pub at_11 : judge (star 33 1) ≡ 11
-  -- a lower number wins, wherever its cause stands: queue 0 on channel 0 and kind 10 at node 4
+  -- a lower number wins, wherever its cause stands: queue 0 on channel 0 and no kind at node 4
   pub first-number : judge (set (set figure4 40 0) 6 10) ≡ 4
 
 judged : Judged

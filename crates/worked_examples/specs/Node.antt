@@ -2,10 +2,11 @@
 use Rattle.std.specs.Prelude.{◌≡◌, refl, ◌+◌, pos, negsuc}
 use Rattle.laws.specs.Below.{pick_below}
 use Rattle.laws.specs.Signed.{signed}
+use Rattle.kinds.specs.Kinds.{exact}
 use Rattle.image.specs.Image.{nodes, channels, kind, wire, to, port, feeds}
 use Rattle.worked_examples.specs.Netlist.{figure4, ring}
 use Rattle.pearl.specs.Wrap.{wrap}
-use Rattle.pearl.specs.Next.{exact, next_value}
+use Rattle.pearl.specs.Next.{next_value}
 use Rattle.node.specs.Node.{port_value, next_of}
 
 -- channel c brings 10 + c: the sum node has 10 and 11 on its ports and nothing on port 2; the first hold node has 12, and a count node nothing

@@ -1,10 +1,15 @@
 -- Next values, computed: the whole table, what wraps, and numbers that are no kind. The starred edges are in `starred`.
-use Rattle.std.specs.Prelude.{[], ◌∷◌, Ok, Err, ◌≡◌, refl, pos, negsuc}
+use Rattle.std.specs.Prelude.{[], ◌∷◌, Ok, Err, ◌≡◌, refl, ◌+◌, pos, negsuc, length}
 use Rattle.laws.specs.Signed.{signed}
 use Rattle.laws.specs.Table.{table}
 use Rattle.refusal.specs.declared.Refusal.TheVariants.{Kind as NoKind}
+use Rattle.kinds.specs.Kinds.{halve, larger, choose, kinds, last_kind, exact}
 use Rattle.pearl.specs.Wrap.{wrap}
-use Rattle.pearl.specs.Next.{halve, larger, choose, exact, next_value, next}
+use Rattle.pearl.specs.Next.{next_value, next}
+
+-- the table has a line for each kind beside line 0, which is no kind's
+lines : length kinds ≡ last_kind + 1
+lines = refl
 
 -- kinds 0 to 10 at s = 5, a = -3, b = 7, c = 11, and at s = 5, a = 8, b = 7, c = 11 (`negsuc n` is - (n + 1))
 rows :

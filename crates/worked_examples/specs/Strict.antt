@@ -3,12 +3,13 @@ use Rattle.std.specs.Prelude.{List, [], ◌∷◌, ◌++◌, ◌≡◌, refl, �
 use Rattle.laws.specs.Below.{any_below, sum_below, pick_below}
 use Rattle.laws.specs.Signed.{signed}
 use Rattle.laws.specs.Table.{table}
-use Rattle.image.specs.Image.{nodes, channels, kind, parameter, wire, from, to, port, feeds, depths, stations, depth, inputs}
+use Rattle.kinds.specs.Kinds.{inputs, exact}
+use Rattle.image.specs.Image.{nodes, channels, kind, parameter, wire, from, to, port, feeds, depths, stations, depth}
 use Rattle.verdict.specs.Judge.{judge, bad_kind, bad_wire, bad_port, fed_twice, not_fed, bad_stations, bad_depth}
 use Rattle.worked_examples.specs.Netlist.{figure4, ring}
 use Rattle.node.specs.Node.{port_value, next_of}
 use Rattle.pearl.specs.Wrap.{wrap}
-use Rattle.pearl.specs.Next.{exact, next_value}
+use Rattle.pearl.specs.Next.{next_value}
 use Rattle.strict.specs.Strict.{strict_next, strict_cycle, strict, stream}
 use Rattle.strict.specs.Answer.{strict_number, strict_written}
 

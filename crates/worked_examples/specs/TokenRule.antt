@@ -4,10 +4,11 @@ use Rattle.laws.specs.Below.{all_below, any_below, most_below, pick_below}
 use Rattle.laws.specs.Signed.{signed}
 use Rattle.laws.specs.Lists.{padded}
 use Rattle.laws.specs.Table.{table}
-use Rattle.image.specs.Image.{nodes, channels, kind, parameter, wire, from, to, port, feeds, depths, stations, depth}
+use Rattle.kinds.specs.Kinds.{exact}
+use Rattle.image.specs.Image.{nodes, channels, kind, parameter, wire, from, to, port, feeds, depths, stations, depth, most_stations}
 use Rattle.worked_examples.specs.Netlist.{figure4, ring}
 use Rattle.pearl.specs.Wrap.{wrap}
-use Rattle.pearl.specs.Next.{exact, next_value}
+use Rattle.pearl.specs.Next.{next_value}
 use Rattle.node.specs.Node.{port_value, next_of}
 use Rattle.relay.specs.Link.{letter, reading}
 use Rattle.relay.specs.Station.{held, station_of, place_after}
@@ -22,7 +23,7 @@ use Rattle.cycle.specs.Word.{stalled, sets_above}
 use Rattle.engine.specs.Answer.{stepped}
 use Rattle.token_rule.specs.Cycles.{fired_in, arrivals}
 use Rattle.token_rule.specs.Calls.{Call, step, run, goes, roomy, makes, run_cycles, cycles_in, cycles_of}
-use Rattle.token_rule.specs.Progress.{most_stations, Awake}
+use Rattle.token_rule.specs.Progress.{Awake}
 use Rattle.token_rule_c.specs.Calls.{CallBytes, step_bytes, run_bytes, on_state}
 
 -- ---- the cycles of a list

@@ -7,11 +7,12 @@ use Rattle.laws.specs.Below.{all_below, any_below, sum_below, pick_below}
 use Rattle.laws.specs.Signed.{signed}
 use Rattle.laws.specs.Lists.{padded, zero_from}
 use Rattle.laws.specs.Table.{table}
-use Rattle.image.specs.Image.{nodes, channels, kind, parameter, wire, from, to, port, feeds, depths, stations, depth, inputs}
+use Rattle.kinds.specs.Kinds.{inputs, exact}
+use Rattle.image.specs.Image.{nodes, channels, kind, parameter, wire, from, to, port, feeds, depths, stations, depth}
 use Rattle.verdict.specs.Judge.{judge, bad_kind, bad_wire, bad_port, fed_twice, not_fed, bad_stations, bad_depth}
 use Rattle.worked_examples.specs.Netlist.{figure4}
 use Rattle.pearl.specs.Wrap.{wrap}
-use Rattle.pearl.specs.Next.{exact, next_value}
+use Rattle.pearl.specs.Next.{next_value}
 use Rattle.node.specs.Node.{port_value, next_of}
 use Rattle.relay.specs.Link.{letter, reading}
 use Rattle.relay.specs.Station.{held, station_of, place_after}

@@ -17,8 +17,10 @@ use Rattle.laws.specs.Laws.Signed.{told}
 use Rattle.laws.specs.Lists.{holds_two}
 use Rattle.image.specs.declared.Wire.{Wire}
 use Rattle.image.specs.Image.{nodes, channels}
-use Rattle.verdict.specs.Accepted.{Accepted}
-use Rattle.verdict.specs.Laws.Accepted.{accepted}
+use Rattle.image.specs.Readers.{no_wire, wires, Placed}
+use Rattle.image.specs.Laws.Readers.{wires-at}
+use Rattle.verdict.specs.Judge.{judge}
+use Rattle.verdict.specs.Laws.Accepted.{accepted, channels_few, wire_placed}
 use mir.Syntax.{w32}
 use mir.Val.{SFits}
 use mir.Facts.{to_z-of_z}
@@ -34,12 +36,11 @@ use Rattle.state.specs.State.{no_node, node_at, channel_in}
 use Rattle.state.specs.declared.State.{State}
 use Rattle.cycle.specs.Cycle.{input_at, state_after, after}
 use Rattle.cycle.specs.Loops.Parts.{starved_below, brought_below, blocked_below, fires_below, nodes_below, moved_below}
-use Rattle.cycle.specs.Loops.PartsLaws.{link_in, stop_in, wire-read, wire-within}
+use Rattle.cycle.specs.Loops.PartsLaws.{link_in, stop_in}
 use Rattle.cycle.specs.Loops.Turns.{source_read, arriving-read, stop_read, full-read, input-read, held-read, starved_read, brought_read, blocked-read}
 use Rattle.cycle.specs.Loops.Turns.{station-read, row_turn, link_read, last_read, ends_read, pending_read, queue_read, queue_idle, channel_turn}
 use Rattle.cycle.specs.Loops.Turns.{fires-read, fired-read, gated_turn, cycle_turn, after_next}
 use Rattle.cycle.specs.Laws.Kept.{fitting-next}
-use Rattle.cycle.specs.Loops.Parts.{no_wire, wires_below}
 use Rattle.clock.proofs.cycles.Goals.{In-loop-c, In-loop-c-2, then-length-gt0, else-length-gt0, then-stalls-starved, else-stalls-starved, then-j-length, else-j-length, then-length-gt0-2, else-length-gt0-2, then-takes-is_some, else-takes-is_some}
 use Rattle.clock.proofs.cycles.Goals as goal
 
@@ -50,19 +51,19 @@ read_at wires i = get_or wires i no_wire
 abbrev Within : ℕ → Wire → Type 0
 Within i w = (i < 96) × (w.from < 64) × (w.to < 64) × (w.port < 3) × (w.stations ≤ 8)
 
-within : (img : List ℕ) → Accepted img → (wires : List Wire) → wires ≡ wires_below img (channels img) → (i : ℕ) → i < channels img → Within i (read_at wires i)
-within img net wires e i h =
-    let b = wire-within img net i h _ (wire-read img i h wires e) in
-    (omega (arith, net.few_channels), b.0, b.1, b.2, b.3)
+within : (img : List ℕ) → judge img ≡ 0 → (all : List Wire) → all ≡ wires img → (i : ℕ) → i < channels img → Within i (read_at all i)
+within img ok all e i h =
+    let w : Placed (read_at all i) = rw (wires-at img i h all e) (wire_placed img ok i h) in
+    (omega (arith, h, channels_few img ok), w.from, w.to, w.port, w.stations)
 
-scan_within : (c : In-loop-c) → Within c.loop-c.c (read_at c.wires_of-wires.result c.loop-c.c)
+scan_within : (c : In-loop-c) → Within c.loop-c.c (read_at c.wires-wires.result c.loop-c.c)
 scan_within c =
-    within c.args.netlist.image.now (accepted c.args.netlist.image.now c.args.netlist.accepted) c.wires_of-wires.result c.wires_of-wires.ensures c.loop-c.c
+    within c.args.netlist.image.now c.args.netlist.accepted c.wires-wires.result c.wires-wires.ensures c.loop-c.c
     (omega (arith, c.channels-channels.ensures.value))
 
-move_within : (c : In-loop-c-2) → Within c.loop-c-2.c (read_at c.wires_of-wires.result c.loop-c-2.c)
+move_within : (c : In-loop-c-2) → Within c.loop-c-2.c (read_at c.wires-wires.result c.loop-c-2.c)
 move_within c =
-    within c.args.netlist.image.now (accepted c.args.netlist.image.now c.args.netlist.accepted) c.wires_of-wires.result c.wires_of-wires.ensures c.loop-c-2.c
+    within c.args.netlist.image.now c.args.netlist.accepted c.wires-wires.result c.wires-wires.ensures c.loop-c-2.c
     (omega (arith, c.channels-channels.ensures.value))
 
 -- a pending bit as its byte
@@ -112,7 +113,7 @@ loop-c-preserved c =
     let fit = c.loop-word.invariant.fits in
     let i = c.loop-c.c in
     let h : i < channels img = omega (arith, c.channels-channels.ensures.value) in
-    let e = wire-read img i h c.wires_of-wires.result c.wires_of-wires.ensures in
+    let e = wires-at img i h c.wires-wires.result c.wires-wires.ensures in
     let inv = c.loop-c.invariant in
     let join = c.if-length-gt0 in
     let g : SFits w32 c.unwrap_or.result = search rules in
@@ -121,7 +122,7 @@ loop-c-preserved c =
     (elim c.if-length-gt0.branch [
       | then-length-gt0 w ↦ inl (omega arith, ap (λ (p : Link × Bool). p.0) w.link-is ∙ w.link.ensures)
       | else-length-gt0 w ↦
-          let f : SFits w32 (get_or s.nodes (read_at c.wires_of-wires.result i).from no_node).value = search rules in
+          let f : SFits w32 (get_or s.nodes (read_at c.wires-wires.result i).from no_node).value = search rules in
           inr (omega arith, source_read img s i _ e _ _ (ap (λ (p : Link × Bool). p.0) w.link-is ∙ w.then_some.ensures) (to_z-of_z f))
     ]) in
     let stop : join.link.1 ≡ stop_in img s i 0 =
@@ -201,9 +202,9 @@ loop-j-init c =
     let w = get_or c.args.words.now c.loop-word.word-index 0 in
     let i = c.loop-c-2.c in
     let h : i < channels img = omega (arith, c.channels-channels.ensures.value) in
-    let e = wire-read img i h c.wires_of-wires.result c.wires_of-wires.ensures in
+    let e = wires-at img i h c.wires-wires.result c.wires-wires.ensures in
     let l = c.loop-c-2 in
-    let f : SFits w32 (get_or s.nodes (read_at c.wires_of-wires.result i).from no_node).value = search rules in (
+    let f : SFits w32 (get_or s.nodes (read_at c.wires-wires.result i).from no_node).value = search rules in (
       omega arith,
       l.invariant.1 ∙ ap (moved_below img w s s.cycles (nodes_below img w s c.nodes-nodes.result) i) (sym (add-zero (8 * i))),
       source_read img s i _ e _ _ c.then_some-link.ensures (to_z-of_z f),
@@ -218,10 +219,10 @@ loop-j-preserved c =
     let w = get_or c.args.words.now c.loop-word.word-index 0 in
     let i = c.loop-c-2.c in
     let h : i < channels img = omega (arith, c.channels-channels.ensures.value) in
-    let e = wire-read img i h c.wires_of-wires.result c.wires_of-wires.ensures in
+    let e = wires-at img i h c.wires-wires.result c.wires-wires.ensures in
     let l = c.loop-j in
     let join = c.if-j-length in
-    let inside : l.j < (read_at c.wires_of-wires.result i).stations = omega arith in
+    let inside : l.j < (read_at c.wires-wires.result i).stations = omega arith in
     let stop : join.below ≡ stop_in img s i (l.j + 1) =
     stop_read img s i _ e (l.j + 1) join.below
     (elim c.if-j-length.branch [
@@ -244,9 +245,9 @@ loop-c-2-preserved c =
     let w = get_or c.args.words.now c.loop-word.word-index 0 in
     let i = c.loop-c-2.c in
     let h : i < channels img = omega (arith, c.channels-channels.ensures.value) in
-    let e = wire-read img i h c.wires_of-wires.result c.wires_of-wires.ensures in
+    let e = wires-at img i h c.wires-wires.result c.wires-wires.ensures in
     let l = c.loop-j in
-    let end : l.j ≡ (read_at c.wires_of-wires.result i).stations = omega arith in
+    let end : l.j ≡ (read_at c.wires-wires.result i).stations = omega arith in
     let gate = c.loop-n in
     let n : gate.n ≡ nodes img = omega (arith, c.nodes-nodes.ensures.value, gate.invariant.0, c.loop-n-test.false) in
     let ends = ends_read img net s fit i h _ e w gate.fires (gate.invariant.2 ∙ ap (fires_below img w s) n) in

@@ -3,27 +3,17 @@
 use Rattle.std.specs.Prelude.{is_some, unwrap_or, Bool, false, not, ◌&&◌, List, [], ℕ, ◌/◌, ◌%◌, eqb, ℤ, pos, get_or, replicate}
 use Rattle.laws.specs.Below.{any_below}
 use Rattle.laws.specs.Choice.{◌if◌else◌}
-use Rattle.laws.specs.Lists.{holds, padded}
+use Rattle.laws.specs.Lists.{holds}
 use Rattle.laws.specs.Table.{table, table_over}
 use Rattle.image.specs.Image.{from, to}
-use Rattle.image.specs.Readers.{wire_at}
 use Rattle.image.specs.Loops.Ports.{ports_below}
 use Rattle.relay.specs.declared.Station.{Station}
 use Rattle.relay.specs.Station.{station_of}
 use Rattle.shell.specs.declared.Queue.{Queue}
 use Rattle.shell.specs.Queue.{queue_of}
-use Rattle.image.specs.declared.Wire.{Wire}
 use Rattle.state.specs.declared.Node.{Node}
 use Rattle.state.specs.declared.State.{State}
 use Rattle.cycle.specs.Cycle.{input_at, blocked_at, fires, node_after, channel_after_at}
-
--- a wire of zeros, for the places of an array that no channel has
-abbrev pub no_wire : Wire
-no_wire = record { from = 0; to = 0; port = 0; stations = 0; depth = 0 }
-
--- the wires of the channels below c, and `no_wire` in the other places
-unfoldable pub wires_below : List ℕ → ℕ → List Wire
-wires_below img c = padded 96 no_wire (table (wire_at img) c)
 
 module _ (img : List ℕ) (s : State) where
   -- data validation: which nodes have an input, among the channels below c, that is not ready

@@ -16,10 +16,8 @@ use Rattle.laws.specs.Choice.{◌if◌else◌}
 use Rattle.laws.specs.Lists.{holds, holds_two}
 use Rattle.laws.specs.Laws.Lists.{holds_one}
 use Rattle.laws.specs.Table.{table_over}
-use Rattle.laws.specs.Laws.Table.{table_at, table_raise, over_skip, over_table, padded-table, padded-at}
+use Rattle.laws.specs.Laws.Table.{table_at, table_raise, over_skip, over_table}
 use Rattle.image.specs.Image.{nodes, channels, kind, from, to, port, feeds, stations, depth}
-use Rattle.image.specs.declared.Wire.{Wire}
-use Rattle.image.specs.Readers.{wire_at}
 use Rattle.image.specs.Loops.Ports.{ports_below}
 use Rattle.image.specs.Loops.PortsLaws.{ports_at}
 use Rattle.verdict.specs.Accepted.{Accepted}
@@ -43,7 +41,7 @@ use Rattle.cycle.specs.Word.{stalled}
 use Rattle.cycle.specs.Laws.Cycle.{length-next, source_next}
 use Rattle.fitting.specs.Fitting.{Fitting}
 use Rattle.fitting.specs.Laws.Fitting.{stations_long, station_written, queue_written}
-use Rattle.cycle.specs.Loops.Parts.{no_wire, wires_below, starved_below, brought_below, blocked_below}
+use Rattle.cycle.specs.Loops.Parts.{starved_below, brought_below, blocked_below}
 use Rattle.cycle.specs.Loops.Parts.{nodes_below, pending_after_at, station_after_at, queue_after_at, moved_below}
 
 -- ---- a channel of a state, by index
@@ -218,25 +216,3 @@ cycle_done img w s fit =
       over_table (station_after_at img w s) _ (8 * channels img) 768 (station_of []) s.stations (ap (λ (x : State). x.stations) fit.written),
       over_table (queue_after_at img w s) _ (channels img) 96 (queue_of []) s.queues (ap (λ (x : State). x.queues) fit.written),
     )
-
--- ---- what is decoded
-pub wires_turn :
-    (img : List ℕ) (c : ℕ) → c < 96 → (wires : List Wire) → wires ≡ wires_below img c → (channel : Wire) → channel ≡ wire_at img c
-    → set wires c channel ≡ wires_below img (suc c)
-unfolding wires_below
-wires_turn img c h wires e channel f = rw (e, f, padded-table (wire_at img) c 96 _ h)
-
-pub wire-read :
-    (img : List ℕ) (c : ℕ) → c < channels img → (wires : List Wire) → wires ≡ wires_below img (channels img)
-    → get_or wires c no_wire ≡ wire_at img c
-unfolding wires_below
-wire-read img c h wires e = rw e (padded-at (wire_at img) (channels img) 96 c _ _ h)
-
--- a wire's nodes and port are indices, and it has at most eight stations
-pub wire-within :
-    (img : List ℕ) → Accepted img → (c : ℕ) → c < channels img → (wire : Wire) → wire ≡ wire_at img c
-    → (wire.from < 64) × (wire.to < 64) × (wire.port < 3) × (wire.stations ≤ 8)
-unfolding wire_at
-wire-within img a c h wire e =
-    let w = accepted-wired img a in
-    rw e (omega (arith, a.wires c h, a.few_nodes), w.node c h, w.input c h, a.rows c h)

@@ -5,7 +5,7 @@ use Prim.Native.Nat.{◌<◌}
 use native.Mathlib.Numerals.{add-one}
 use native.Mathlib.Omega.{arith}
 use borrow.Author.Tests.{le-ltb}
-use Rattle.laws.specs.Range.{outside}
+use Rattle.kinds.specs.Kinds.{last_kind, no_kind}
 use Rattle.image.specs.Image.{nodes, kind}
 use Rattle.verdict.specs.Laws.Accepted.{accepted}
 use Rattle.image.specs.declared.Core.{Core}
@@ -21,7 +21,7 @@ unwrap-requires c =
     let h : c.loop-n.n < nodes img = omega (arith, c.nodes-n-end.ensures.value) in
     let r = (accepted img c.args.netlist.accepted).kinds c.loop-n.n h in
     let k : c.core.result.kind ≡ kind img c.loop-n.n = ap (λ (x : Core). x.kind) c.core.ensures in
-    let e : outside 1 9 c.core.result.kind ≡ false = rw (k, le-ltb (kind img c.loop-n.n) 1 r.0, le-ltb 9 (kind img c.loop-n.n) r.1) in
+    let e : no_kind c.core.result.kind ≡ false = rw (k, le-ltb (kind img c.loop-n.n) 1 r.0, le-ltb last_kind (kind img c.loop-n.n) r.1) in
     decodes_ok c.core.result.kind c.try_from.result e c.try_from.ensures
 
 pub loop-n-init : goal.loop-n-init

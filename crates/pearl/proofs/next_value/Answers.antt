@@ -4,7 +4,7 @@ use mir.Syntax.{w32}
 use mir.Val.{SFits}
 use mir.Facts.{to_z-of_z}
 use Rattle.std.proofs.lemmas.Result.{err_from_is_err_and}
-use Rattle.pearl.specs.Laws.Kind.{outside-kind_byte}
+use Rattle.pearl.specs.Laws.Kind.{is_kind}
 use Rattle.pearl.specs.Next.{next}
 use Rattle.pearl.proofs.next_value.Goals as goal
 
@@ -20,7 +20,7 @@ returns c =
     let f : SFits w32 c.next.result = search rules in
     rw (
       ← c.in_ok-kind.ensures,
-      outside-kind_byte c.in_ok-kind.kind,
+      is_kind c.in_ok-kind.kind,
       to_z-of_z f,
       c.next.ensures,
       to_z-of_z c.ranges.s,

@@ -4,7 +4,7 @@ use Rattle.std.proofs.Common.{arith, ltb-false, le-ltb}
 use Rattle.laws.specs.Below.{any_below, sum_below}
 use Rattle.laws.specs.Laws.Below.{any_where, any_hit, none-iff}
 use Rattle.image.specs.Image.{nodes, channels, kind, to, feeds, stations}
-use Rattle.image.specs.Laws.Image.{inputs_few}
+use Rattle.kinds.specs.Laws.Kinds.{inputs_few}
 use Rattle.image.specs.Loops.Ports.{Wired}
 use Rattle.image.specs.Readers.{wire_at, Placed}
 use Rattle.verdict.specs.Judge.{judge, bad_kind, bad_wire, bad_port, bad_stations, bad_depth}

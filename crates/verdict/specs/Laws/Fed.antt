@@ -7,7 +7,8 @@ use Rattle.std.proofs.lemmas.Bool.{not-false}
 use Rattle.laws.specs.Below.{any_below}
 use Rattle.laws.specs.Laws.Below.{none-iff}
 use Rattle.laws.specs.Laws.Cases.{lt-or-ge, true_or_false}
-use Rattle.image.specs.Image.{feeds, nodes, channels, kind, to, port, inputs}
+use Rattle.kinds.specs.Kinds.{inputs}
+use Rattle.image.specs.Image.{feeds, nodes, channels, kind, to, port}
 use Rattle.verdict.specs.Judge.{fed_twice, not_fed}
 use Rattle.image.specs.Loops.PortsLaws.{feeds_ok}
 

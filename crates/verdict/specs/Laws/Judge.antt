@@ -5,7 +5,8 @@ use Rattle.std.proofs.lemmas.Bool.{not-false}
 use Rattle.laws.specs.Range.{outside}
 use Rattle.laws.specs.Laws.Range.{inside}
 use Rattle.laws.specs.Laws.Tests.{ge-iff, gt-iff, nor-iff}
-use Rattle.image.specs.Image.{nodes, channels, kind, from, to, port, stations, depth, inputs}
+use Rattle.kinds.specs.Kinds.{last_kind, inputs}
+use Rattle.image.specs.Image.{nodes, channels, kind, from, to, port, stations, depth}
 use Rattle.verdict.specs.Judge.{bad_kind, bad_wire, bad_port, bad_stations, bad_depth}
 
 module _ (img : List ℕ) where
@@ -19,9 +20,9 @@ module _ (img : List ℕ) where
       let due = 2 + 5 * nodes img + 5 * channels img in
       (λ e. eqb-true (length img) due (not-false (eqb (length img) due) e), λ q. ap not (eq-eqb (length img) due q))
 
-  pub kind_ok : (n : ℕ) → (bad_kind img n ≡ false) ↔ ((1 ≤ kind img n) × (kind img n ≤ 9))
+  pub kind_ok : (n : ℕ) → (bad_kind img n ≡ false) ↔ ((1 ≤ kind img n) × (kind img n ≤ last_kind))
   unfolding bad_kind
-  kind_ok n = inside 1 9 (kind img n)
+  kind_ok n = inside 1 last_kind (kind img n)
 
   pub wire_ok : (c : ℕ) → (bad_wire img c ≡ false) ↔ ((from img c < nodes img) × (to img c < nodes img))
   unfolding bad_wire

@@ -2,7 +2,8 @@
 use Rattle.std.specs.Prelude.{Bool, true, false, not, List, ℕ, ltb, get_or}
 use Rattle.laws.specs.Below.{any_below, sum_below}
 use Rattle.laws.specs.Choice.{◌if◌else◌}
-use Rattle.image.specs.Image.{channels, kind, to, port, stations, inputs}
+use Rattle.kinds.specs.Kinds.{inputs}
+use Rattle.image.specs.Image.{channels, kind, to, port, stations}
 use Rattle.verdict.specs.Judge.{bad_stations, bad_depth}
 use Rattle.image.specs.Loops.Ports.{port_place, ports_below}
 

@@ -6,8 +6,9 @@ use Rattle.std.proofs.Common.{◌∙◌, arith}
 use Rattle.std.proofs.Math.ListN.{get_or}
 use Rattle.laws.specs.Below.{any_below}
 use Rattle.laws.specs.Laws.Below.{none-iff, any_same, any_hit, pick_any}
-use Rattle.image.specs.Image.{feeds, nodes, channels, kind, to, port, inputs}
-use Rattle.image.specs.Laws.Image.{inputs_few}
+use Rattle.kinds.specs.Kinds.{inputs}
+use Rattle.kinds.specs.Laws.Kinds.{inputs_few}
+use Rattle.image.specs.Image.{feeds, nodes, channels, kind, to, port}
 use Rattle.verdict.specs.Judge.{bad_wire, bad_port, fed_twice, not_fed}
 use Rattle.verdict.specs.Laws.Judge.{wire_ok, port_ok}
 use Rattle.verdict.specs.Loops.Passes.{fed_below, finds, twice_below, misses}

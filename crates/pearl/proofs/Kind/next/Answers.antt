@@ -10,8 +10,9 @@ use mir.Facts.{to_z-of_z}
 use mir.ValLaws.{sfits_le}
 use Rattle.pearl.specs.declared.Kind.TheVariants.{Halve, Choose}
 use Rattle.pearl.specs.Wrap.{wrap}
-use Rattle.pearl.specs.Next.{halve, larger, choose, exact, next_value}
-use Rattle.pearl.specs.Laws.Next.{larger-int_max}
+use Rattle.kinds.specs.Kinds.{halve, larger, choose, exact}
+use Rattle.kinds.specs.Laws.Kinds.{larger-int_max}
+use Rattle.pearl.specs.Next.{next_value}
 use Rattle.pearl.specs.Laws.Wrap.{wrap-fits, wrapping_sum, wrapping_difference, wrapping_negation}
 use Rattle.pearl.proofs.Kind.next.Goals as goal
 

@@ -3,7 +3,8 @@ use Rattle.std.proofs.Common.{◌∙◌, not, false, get_or, refl, rules, tests,
 use Rattle.std.proofs.lemmas.Iterator.{YieldsList-from_range}
 use Rattle.std.proofs.lemmas.Iterator.Search.{any_from_yields_List}
 use Rattle.laws.specs.Laws.Below.{any_range}
-use Rattle.image.specs.Image.{kind, inputs}
+use Rattle.kinds.specs.Kinds.{inputs}
+use Rattle.image.specs.Image.{kind}
 use Rattle.verdict.specs.Loops.Passes.{misses}
 use Rattle.image.specs.Loops.Ports.{port_place}
 use Rattle.verdict.proofs.passes.misses_port.Goals as goal
