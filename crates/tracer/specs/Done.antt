@@ -44,7 +44,7 @@ module _ (img : List ℕ) (s : State) (word : ℕ) (out : List ℕ) where
 
   -- what the slice holds after a call for a cycle's line
   unfoldable pub line_over : List ℕ
-  line_over = out if not (eqb (step_number img s word 96 96) 0) else written_over (cycle_text img s) out
+  line_over = written_over (cycle_text img s) out if eqb (step_number img s word 96 96) 0 else out
 
 -- what a call for a cycle's line has done
 pub record LineDone (img : List ℕ) (s : State) (word : ℕ) (out : List ℕ) (answer : LineTold) (left : List ℕ) : Type 0 where
@@ -62,7 +62,7 @@ module _ (img : List ℕ) (s : State) (out : List ℕ) where
 
   -- what the slice holds after a call for the closing line
   unfoldable pub closing_over : List ℕ
-  closing_over = out if not (eqb (state_number img s) 0) else written_over (closing_text (firings_of img s)) out
+  closing_over = written_over (closing_text (firings_of img s)) out if eqb (state_number img s) 0 else out
 
 -- what a call for the closing line has done
 pub record ClosingDone (img : List ℕ) (s : State) (out : List ℕ) (answer : WriteTold) (left : List ℕ) : Type 0 where
