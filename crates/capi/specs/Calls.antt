@@ -1,9 +1,9 @@
 -- What the calls for C have done: the number that each answers, what it stores through its last pointers, and what the lent bytes and arrays hold
 -- after it. Each contract ensures its record as it stands here. They are the answers of the crates below, on the state or the records that bytes are.
-use Rattle.std.specs.Prelude.{Bool, not, ◌≡◌, ℕ, eqb, ltb, ℤ, length, drop}
+use Rattle.std.specs.Prelude.{Bool, ◌≡◌, ℕ, eqb, ltb, ℤ, length, drop}
 use mathlib.Core.List.{List, ◌++◌, flat_map}
 use Rattle.std.specs.Bool.{then_some}
-use Rattle.laws.specs.Choice.{◌if◌else◌}
+use Rattle.laws.specs.Choice.{◌if◌else◌, ◌then◌}
 use Rattle.verdict.specs.Judge.{judge}
 use Rattle.relay.specs.declared.Station.{Station}
 use Rattle.state.specs.declared.State.{State}
@@ -24,7 +24,7 @@ state_over s bytes = state_bytes s ++ drop state_length bytes
 -- the number of a call for a fresh state, given how many bytes are lent: "1 to 11 rising", then 13, "a lent array shorter than the result"
 unfoldable pub fresh_number : List ℕ → ℕ → ℕ
 fresh_number img room =
-    judge img if not (eqb (judge img) 0) else
+    judge img then
     13 if ltb room state_length else
     0
 

@@ -152,7 +152,7 @@ fn trace(rt: &impl Print, input: &[u8], size: u64) -> io::Result<()>
     requires { length input.now ≡ min size 33570 }
 {
     match trace_input::judge(input, size) {
-        Ok(()) => print_trace(rt, &input[..trace_input::image_length(input)], input),
+        Ok(()) => print_trace(rt, trace_input::image_of(input), input),
         Err(refusal) => print(rt, refusal_line(refusal)),
     }
 }

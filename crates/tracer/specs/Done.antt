@@ -1,7 +1,7 @@
 -- What a call for a cycle's line and one for the closing line have done, by equations with the definitions: what was returned, and what the lent
 -- slice holds after it. Each contract ensures its record as it stands here.
 use Rattle.std.specs.Prelude.{not, List, ◌≡◌, ℕ, eqb, Result, Ok, Err}
-use Rattle.laws.specs.Choice.{◌if◌else◌}
+use Rattle.laws.specs.Choice.{◌if◌else◌, ◌then◌}
 use Rattle.refusal.specs.Number.{number}
 use Rattle.state.specs.declared.Refused.{Refused}
 use Rattle.state.specs.declared.State.{State}
@@ -9,7 +9,7 @@ use Rattle.cycle.specs.Cycle.{state_after}
 use Rattle.fitting.specs.Fits.{state_number}
 use Rattle.engine.specs.Answer.{step_number}
 use Rattle.text.specs.Lines.{closing_text}
-use Rattle.writer.specs.Write.{written_answer, written_over, WriteTold, write_told}
+use Rattle.writer.specs.Write.{written_answer, written_over, WriteTold, write_refusal, write_told}
 use Rattle.tracer.specs.declared.Lined.{Lined}
 use Rattle.tracer.specs.Trace.{cycle_text, firings_of}
 
@@ -19,27 +19,33 @@ pub record LineTold : Type 0 where
   pub length : ℕ
   pub state : State
 
+-- a call for a cycle's line that is refused answers its number and the state that it was handed, and one that is not the line's length and the state
+-- after the cycle
+abbrev pub line_refusal : ℕ → State → LineTold
+line_refusal number s = record { number = number; length = 0; state = s }
+
+abbrev pub line_reply : ℕ → State → LineTold
+line_reply length after = record { number = 0; length = length; state = after }
+
 -- what the code's answer of a call for a cycle's line tells
 abbrev pub line_told : Result Lined Refused → LineTold
-line_told (Ok line) = record { number = 0; length = line.length; state = line.state }
-line_told (Err r) = record { number = number r.refusal; length = 0; state = r.state }
+line_told (Ok line) = line_reply line.length line.state
+line_told (Err r) = line_refusal (number r.refusal) r.state
 
 -- ---- the line of a cycle
--- a call for a cycle's line has a step's numbers, "1 to 11 rising ..; then 21, 22, 12" (96 places for letters and values are always enough), and then
--- a writer's
 module _ (img : List ℕ) (s : State) (word : ℕ) (out : List ℕ) where
-  -- what a call for a cycle's line answers, from the state s with a stall word and a slice that holds `out`
+  -- what a call for a cycle's line answers, from the state s with a stall word and a slice that holds `out`. It has a step's numbers, "1 to 11 rising
+  -- ..; then 21, 22, 12" (96 places for letters and values are always enough), and then a writer's
   unfoldable pub line_answer : LineTold
   line_answer =
-      let number = step_number img s word 96 96 in
       let written = write_told (written_answer (cycle_text img s) out) in
-      record { number = number; length = 0; state = s } if not (eqb number 0) else
-      -- only a line that was written makes a cycle
-      record { number = written.number; length = written.length; state = state_after img word s if eqb written.number 0 else s }
+      let number = step_number img s word 96 96 then written.number in
+      line_refusal number s if not (eqb number 0) else
+      line_reply written.length (state_after img word s)
 
   -- what the slice holds after a call for a cycle's line
   unfoldable pub line_over : List ℕ
-  line_over = out if not (eqb (step_number img s word 96 96) 0) else written_over (cycle_text img s) out
+  line_over = written_over (cycle_text img s) out if eqb (step_number img s word 96 96) 0 else out
 
 -- what a call for a cycle's line has done
 pub record LineDone (img : List ℕ) (s : State) (word : ℕ) (out : List ℕ) (answer : LineTold) (left : List ℕ) : Type 0 where
@@ -52,12 +58,12 @@ module _ (img : List ℕ) (s : State) (out : List ℕ) where
   -- what a call for the closing line answers, after the state s with a slice that holds `out`
   unfoldable pub closing_answer : WriteTold
   closing_answer =
-      record { number = state_number img s; length = 0 } if not (eqb (state_number img s) 0) else
+      write_refusal (state_number img s) if not (eqb (state_number img s) 0) else
       write_told (written_answer (closing_text (firings_of img s)) out)
 
   -- what the slice holds after a call for the closing line
   unfoldable pub closing_over : List ℕ
-  closing_over = out if not (eqb (state_number img s) 0) else written_over (closing_text (firings_of img s)) out
+  closing_over = written_over (closing_text (firings_of img s)) out if eqb (state_number img s) 0 else out
 
 -- what a call for the closing line has done
 pub record ClosingDone (img : List ℕ) (s : State) (out : List ℕ) (answer : WriteTold) (left : List ℕ) : Type 0 where

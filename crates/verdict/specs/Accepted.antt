@@ -1,8 +1,8 @@
 -- What acceptance gives: all that other crates use of the judge. Laws/Accepted proves that an accepted image has it, and only such an image.
-use Rattle.std.specs.Prelude.{List, ◌≡◌, ℕ, ◌≤◌, ◌<◌, ◌+◌, ◌*◌, length}
+use Rattle.std.specs.Prelude.{List, ◌≡◌, ℕ, ◌≤◌, ◌<◌, length}
 use Rattle.laws.specs.Below.{sum_below}
 use Rattle.kinds.specs.Kinds.{last_kind, inputs}
-use Rattle.image.specs.Image.{nodes, channels, kind, from, to, port, stations, depth}
+use Rattle.image.specs.Image.{nodes, channels, kind, from, to, port, stations, depth, length_due}
 
 -- a channel that feeds port p of node n
 pub record Feeder (img : List ℕ) (n p : ℕ) : Type 0 where
@@ -18,7 +18,7 @@ pub record Accepted (img : List ℕ) : Type 0 where
   pub some_nodes : 1 ≤ nodes img
   pub few_nodes : nodes img ≤ 64
   pub few_channels : channels img ≤ 96
-  pub whole : length img ≡ 2 + 5 * nodes img + 5 * channels img
+  pub whole : length img ≡ length_due img
   pub kinds : (n : ℕ) → n < nodes img → (1 ≤ kind img n) × (kind img n ≤ last_kind)
   pub wires : (c : ℕ) → c < channels img → (from img c < nodes img) × (to img c < nodes img)
   pub ports : (c : ℕ) → c < channels img → port img c < inputs (kind img (to img c))

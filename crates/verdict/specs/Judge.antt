@@ -1,10 +1,10 @@
 -- The judge: "Order: 1 to 11 rising, each over the whole image."
-use Rattle.std.specs.Prelude.{Bool, not, ◌||◌, List, ℕ, ◌+◌, ◌*◌, eqb, leb, ltb, length}
+use Rattle.std.specs.Prelude.{Bool, not, ◌||◌, List, ℕ, eqb, leb, ltb, length}
 use Rattle.laws.specs.Below.{any_below, sum_below}
-use Rattle.laws.specs.Choice.{◌if◌else◌}
+use Rattle.laws.specs.Choice.{◌if◌else◌, ◌then◌}
 use Rattle.laws.specs.Range.{outside}
 use Rattle.kinds.specs.Kinds.{no_kind, inputs}
-use Rattle.image.specs.Image.{nodes, channels, kind, from, to, port, feeds, stations, depth}
+use Rattle.image.specs.Image.{nodes, channels, kind, from, to, port, feeds, stations, depth, length_due}
 
 -- whether number 4 has a cause at node n: its kind is none of the table
 unfoldable pub bad_kind : List ℕ → ℕ → Bool
@@ -34,23 +34,36 @@ bad_stations img c = ltb 8 (stations img c)
 unfoldable pub bad_depth : List ℕ → ℕ → Bool
 bad_depth img c = outside 1 8 (depth img c)
 
--- 0 where the image is accepted, else the first of the numbers 1 to 11 whose condition holds somewhere in it
-unfoldable pub judge : List ℕ → ℕ
-judge img =
+-- the first of the numbers 1 to 3, of the sizes, that has a cause, and 0 if none has
+unfoldable pub sizes_number : List ℕ → ℕ
+sizes_number img =
     -- image under 2 bytes
     1 if ltb (length img) 2 else
     -- N is 0 or over 64, or C over 96
     2 if outside 1 64 (nodes img) || ltb 96 (channels img) else
     -- length not 2 + 5N + 5C
-    3 if not (eqb (length img) (2 + 5 * nodes img + 5 * channels img)) else
-    -- numbers 4 to 10 at some node or channel
-    4 if any_below (bad_kind img) (nodes img) else
-    5 if any_below (bad_wire img) (channels img) else
-    6 if any_below (bad_port img) (channels img) else
-    7 if any_below (fed_twice img) (channels img) else
-    8 if any_below (not_fed img) (nodes img) else
+    3 if not (eqb (length img) (length_due img)) else
+    0
+
+-- the first of the numbers 9 to 11, of the depths, that has a cause, and 0 if none has
+unfoldable pub depth_number : List ℕ → ℕ
+depth_number img =
     9 if any_below (bad_stations img) (channels img) else
     10 if any_below (bad_depth img) (channels img) else
     -- over 256 stations in all
     11 if ltb 256 (sum_below (stations img) (channels img)) else
     0
+
+-- the first of the numbers 4 to 11, of what the image contains, that has a cause, and 0 if none has
+unfoldable pub contents_number : List ℕ → ℕ
+contents_number img =
+    4 if any_below (bad_kind img) (nodes img) else
+    5 if any_below (bad_wire img) (channels img) else
+    6 if any_below (bad_port img) (channels img) else
+    7 if any_below (fed_twice img) (channels img) else
+    8 if any_below (not_fed img) (nodes img) else
+    depth_number img
+
+-- 0 where the image is accepted, else the first of the numbers 1 to 11 that has a cause
+unfoldable pub judge : List ℕ → ℕ
+judge img = sizes_number img then contents_number img

@@ -2,5 +2,6 @@
 pub mod Accepted
 pub mod Head
 pub mod Judge
+pub mod Sized
 pub mod Fed
 pub mod Clear

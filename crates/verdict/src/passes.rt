@@ -6,10 +6,9 @@ ghost use Rattle.laws.specs.Below.{any_below, sum_below};
 ghost use Rattle.laws.specs.Choice.{◌if◌else◌};
 ghost use Rattle.refusal.specs.Number.{number_of};
 ghost use Rattle.image.specs.Image.{channels, stations};
-ghost use Rattle.verdict.specs.Judge.{bad_kind, bad_wire, bad_port, bad_stations, bad_depth, judge};
+ghost use Rattle.verdict.specs.Judge.{bad_kind, bad_wire, bad_port, bad_stations, bad_depth, judge, depth_number, sizes_number, contents_number};
 ghost use Rattle.image.specs.Loops.Ports.{Wired};
-ghost use Rattle.verdict.specs.Laws.Clear.{Sized};
-ghost use Rattle.verdict.specs.Loops.Passes.{depth_number, fed_below, twice_below, misses};
+ghost use Rattle.verdict.specs.Loops.Passes.{fed_below, twice_below, misses};
 
 use image::{channels, kind_at, nodes, wire_at};
 use kinds::{inputs, no_kind};
@@ -104,7 +103,7 @@ fn all_stations(image: &[u8]) -> u32
 }
 
 // Returns `Ok`, or the first of the refusals 9 to 11 that has a cause in the image.
-#[tactic(auto, unfolding(crate::specs::Loops::Passes::depth_number))]
+#[tactic(auto, unfolding(crate::specs::Judge::depth_number))]
 fn judge_depths(image: &[u8]) -> Result<(), Refusal>
     ensures { number_of result ≡ depth_number image.now }
 {
@@ -124,8 +123,8 @@ fn judge_depths(image: &[u8]) -> Result<(), Refusal>
 // Returns `Ok`, or the first of the refusals 4 to 11 that has a cause, given an image in which 1 to 3
 // have none.
 pub(crate) fn contents(image: &[u8]) -> Result<(), Refusal>
-    requires { Sized image.now }
-    ensures { number_of result ≡ judge image.now }
+    requires { sizes_number image.now ≡ 0 }
+    ensures { number_of result ≡ contents_number image.now }
 {
     let nodes = nodes(image);
     let channels = channels(image);

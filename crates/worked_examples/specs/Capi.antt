@@ -8,7 +8,7 @@ use Rattle.laws.specs.Signed.{signed}
 use Rattle.laws.specs.Table.{table}
 use Rattle.kinds.specs.Kinds.{inputs, exact}
 use Rattle.image.specs.Image.{nodes, channels, kind, parameter, wire, from, to, port, feeds, depths, stations, depth}
-use Rattle.verdict.specs.Judge.{judge, bad_kind, bad_wire, bad_port, fed_twice, not_fed, bad_stations, bad_depth}
+use Rattle.verdict.specs.Judge.{judge, bad_kind, bad_wire, bad_port, fed_twice, not_fed, bad_stations, bad_depth, sizes_number, contents_number, depth_number}
 use Rattle.worked_examples.specs.Netlist.{figure4}
 use Rattle.pearl.specs.Wrap.{wrap}
 use Rattle.pearl.specs.Next.{next_value}
@@ -120,6 +120,6 @@ record Lengths : Type 0 where
 
 lengths : Lengths
 unfolding all_below any_below sum_below zero_from nodes channels kind parameter wire from to port feeds depths stations depth inputs
-    judge bad_kind bad_wire bad_port fed_twice not_fed bad_stations bad_depth fits cycles_fit state_number bench_number bench.fits
+    judge sizes_number contents_number depth_number bad_kind bad_wire bad_port fed_twice not_fed bad_stations bad_depth fits cycles_fit state_number bench_number bench.fits
     table flat_map signed token_in station_in places_in no_state state_in no_record record_in row_record record_count row_in
 lengths = record { none = refl; too_few = refl; one_more = refl; rows = refl; records = refl }

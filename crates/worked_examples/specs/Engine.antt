@@ -11,7 +11,7 @@ use Rattle.laws.specs.Lists.{padded, zero_from}
 use Rattle.laws.specs.Table.{table}
 use Rattle.kinds.specs.Kinds.{inputs, exact}
 use Rattle.image.specs.Image.{nodes, channels, kind, parameter, wire, from, to, port, feeds, depths, stations, depth}
-use Rattle.verdict.specs.Judge.{judge, bad_kind, bad_wire, bad_port, fed_twice, not_fed, bad_stations, bad_depth}
+use Rattle.verdict.specs.Judge.{judge, bad_kind, bad_wire, bad_port, fed_twice, not_fed, bad_stations, bad_depth, sizes_number, contents_number, depth_number}
 use Rattle.worked_examples.specs.Netlist.{figure4}
 use Rattle.pearl.specs.Wrap.{wrap}
 use Rattle.pearl.specs.Next.{next_value}
@@ -144,7 +144,7 @@ fresh-state = refl
 
 -- a refused call for a fresh state answers the judge's number beside zeros
 fresh_refused : fresh_answer (set figure4 2 0) ≡ tells 4 zeros
-unfolding judge nodes channels kind wire from to port depths stations depth inputs feeds
+unfolding judge sizes_number contents_number depth_number nodes channels kind wire from to port depths stations depth inputs feeds
     bad_kind bad_wire bad_port fed_twice not_fed bad_stations bad_depth any_below sum_below fresh_answer
 fresh_refused = refl
 
@@ -215,7 +215,7 @@ misfitted = record { misfit = refl; missed = refl; station_count = refl }
 
 -- ---- the answers
 accepted : judge figure4 ≡ 0
-unfolding judge nodes channels kind wire from to port depths stations depth inputs feeds
+unfolding judge sizes_number contents_number depth_number nodes channels kind wire from to port depths stations depth inputs feeds
     bad_kind bad_wire bad_port fed_twice not_fed bad_stations bad_depth any_below sum_below
 accepted = refl
 
@@ -278,7 +278,7 @@ record Answered : Type 0 where
 
 answered : Answered
 unfolding any_below sum_below padded table nodes channels kind wire from to port feeds depths stations depth inputs
-    judge bad_kind bad_wire bad_port fed_twice not_fed bad_stations bad_depth
+    judge sizes_number contents_number depth_number bad_kind bad_wire bad_port fed_twice not_fed bad_stations bad_depth
     letter reading held leaving waiting queue_of full arriving stop_below channel_reading
     node_at pending_at station_at queue_at channel_in state_of reading_at state_after after letters_of values_of
     cycles_fit fits state_number sets_above shown_number letters_shown values_shown step_number number_of_step step_more ran_from run_answer

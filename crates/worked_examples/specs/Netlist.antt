@@ -5,7 +5,7 @@ use Rattle.laws.specs.Signed.{signed}
 use Rattle.kinds.specs.Kinds.{last_kind, inputs}
 use Rattle.image.specs.Image.{feeds, nodes, channels, kind, parameter, wire, from, to, port, depths, stations, depth}
 use Rattle.image.specs.Loops.Ports.{ports_below}
-use Rattle.verdict.specs.Judge.{judge, bad_kind, bad_wire, bad_port, fed_twice, not_fed, bad_stations, bad_depth}
+use Rattle.verdict.specs.Judge.{judge, sizes_number, contents_number, depth_number, bad_kind, bad_wire, bad_port, fed_twice, not_fed, bad_stations, bad_depth}
 
 -- figure 4: kinds 1 1 6 2 2; parameters 10 100 0 0 0; wires 0-2-0, 1-2-1, 2-3-0, 2-4-0; depths 0/2, 0/2, 0/1, 0/1
 abbrev pub figure4 : List ℕ
@@ -80,7 +80,7 @@ pub record Judged : Type 0 where
   pub first-number : judge (set (set figure4 40 0) 6 10) ≡ 4
 
 judged : Judged
-unfolding judge nodes channels kind wire from to port depths stations depth inputs feeds
+unfolding judge sizes_number contents_number depth_number nodes channels kind wire from to port depths stations depth inputs feeds
     bad_kind bad_wire bad_port fed_twice not_fed bad_stations bad_depth any_below sum_below
 judged =
     record {

@@ -5,7 +5,7 @@ use Rattle.laws.specs.Signed.{signed}
 use Rattle.laws.specs.Table.{table}
 use Rattle.kinds.specs.Kinds.{inputs, exact}
 use Rattle.image.specs.Image.{nodes, channels, kind, parameter, wire, from, to, port, feeds, depths, stations, depth}
-use Rattle.verdict.specs.Judge.{judge, bad_kind, bad_wire, bad_port, fed_twice, not_fed, bad_stations, bad_depth}
+use Rattle.verdict.specs.Judge.{judge, bad_kind, bad_wire, bad_port, fed_twice, not_fed, bad_stations, bad_depth, sizes_number, contents_number, depth_number}
 use Rattle.worked_examples.specs.Netlist.{figure4, ring}
 use Rattle.node.specs.Node.{port_value, next_of}
 use Rattle.pearl.specs.Wrap.{wrap}
@@ -91,7 +91,7 @@ pub record Numbered : Type 0 where
 
 numbered : Numbered
 unfolding table pick_below any_below sum_below signed nodes channels kind parameter wire from to port feeds depths stations depth inputs
-    judge bad_kind bad_wire bad_port fed_twice not_fed bad_stations bad_depth
+    judge sizes_number contents_number depth_number bad_kind bad_wire bad_port fed_twice not_fed bad_stations bad_depth
     port_value next_of wrap exact next_value strict_next strict_cycle strict_number strict_written
 numbered =
     record {

@@ -9,7 +9,7 @@ use Rattle.laws.specs.Lists.{padded, zero_from}
 use Rattle.laws.specs.Table.{table}
 use Rattle.kinds.specs.Kinds.{inputs, exact}
 use Rattle.image.specs.Image.{nodes, channels, kind, parameter, wire, from, to, port, feeds, depths, stations, depth}
-use Rattle.verdict.specs.Judge.{judge, bad_kind, bad_wire, bad_port, fed_twice, not_fed, bad_stations, bad_depth}
+use Rattle.verdict.specs.Judge.{judge, bad_kind, bad_wire, bad_port, fed_twice, not_fed, bad_stations, bad_depth, sizes_number, contents_number, depth_number}
 use Rattle.worked_examples.specs.Netlist.{figure4}
 use Rattle.pearl.specs.Wrap.{wrap}
 use Rattle.pearl.specs.Next.{next_value}
@@ -32,10 +32,10 @@ use Rattle.text.specs.Ascii.{ascii}
 use Rattle.text.specs.Decimal.{places, decimal, signed_text}
 use Rattle.text.specs.Lines.{shows_value, reading_text, line_text, count_text, labelled_text, closing_text, refused_text}
 use Rattle.text.specs.Trace.{header, lines_text, trace_text}
-use Rattle.writer.specs.Write.{written_answer, written_over}
-use Rattle.trace_input.specs.Input.{image_due, image_of, word_at, word_count, words_of, input_number}
+use Rattle.writer.specs.Write.{write_refusal, written_answer, written_over}
+use Rattle.trace_input.specs.Input.{image_of, word_at, word_count, words_of, input_number}
 use Rattle.tracer.specs.Trace.{readings_from, cycle_text, firings_of, trace_of, printed}
-use Rattle.tracer.specs.Done.{line_answer, line_over, closing_answer, closing_over}
+use Rattle.tracer.specs.Done.{line_refusal, line_answer, line_over, closing_answer, closing_over}
 
 -- a word below 256 as its bytes
 abbrev word : ℕ → List ℕ
@@ -120,13 +120,13 @@ record Printed : Type 0 where
 all_printed : Printed
 unfolding all_below any_below sum_below pick_below signed padded table flat_map
     nodes channels kind parameter wire from to port feeds depths stations depth inputs wrap exact next_value port_value next_of
-    judge bad_kind bad_wire bad_port fed_twice not_fed bad_stations bad_depth
+    judge sizes_number contents_number depth_number bad_kind bad_wire bad_port fed_twice not_fed bad_stations bad_depth
     letter reading held station_of place_after stopped leaving row_after
     waiting queue_of full blocked arriving input stop_below stop_above channel_reading channel_after
     node_at pending_at station_at queue_at channel_in state_of fresh_state
     stalled input_at blocked_at reading_at all_ready any_blocked fires node_after channel_after_at state_after after
     sets_above ascii places decimal signed_text shows_value reading_text line_text count_text labelled_text closing_text refused_text header lines_text trace_text
-    image_due image_of word_at word_count words_of input_number readings_from firings_of trace_of printed
+    image_of word_at word_count words_of input_number readings_from firings_of trace_of printed
 all_printed =
     record {
       of_figure4 = refl;
@@ -140,7 +140,7 @@ all_printed =
 
 -- "8-byte words, low byte first"; what is left over is no word
 low_first : words_of (figure4 ++ (1 ∷ 2 ∷ 3 ∷ 4 ∷ 5 ∷ 6 ∷ 7 ∷ 8 ∷ 0 ∷ 255 ∷ [])) ≡ 578437695752307201 ∷ []
-unfolding table nodes channels image_due word_at word_count words_of
+unfolding table nodes channels word_at word_count words_of
 low_first = refl
 
 -- an input's own number
@@ -186,8 +186,8 @@ record Numbered : Type 0 where
 numbered : Numbered
 unfolding any_below sum_below flat_map
     nodes channels kind wire from to port feeds depths stations depth inputs
-    judge bad_kind bad_wire bad_port fed_twice not_fed bad_stations bad_depth
-    sets_above image_due image_of word_at word_count input_number
+    judge sizes_number contents_number depth_number bad_kind bad_wire bad_port fed_twice not_fed bad_stations bad_depth
+    sets_above image_of word_at word_count input_number
 numbered =
     record {
       at_1_empty = refl;
@@ -221,19 +221,19 @@ record Called : Type 0 where
   line_number : (line_answer figure4 fresh 0 (room 18)).number ≡ 0
   line_length : (line_answer figure4 fresh 0 (room 18)).length ≡ 17
   line_over_lem : line_over figure4 fresh 0 (room 18) ≡ text ("0 T10 T100 T0 T0" ∷ []) ++ (7 ∷ [])
-  line_short : line_answer figure4 fresh 0 (room 16) ≡ record { number = 13; length = 0; state = fresh }
+  line_short : line_answer figure4 fresh 0 (room 16) ≡ line_refusal 13 fresh
   line_short_over : line_over figure4 fresh 0 (room 16) ≡ room 16
-  line_refused : line_answer figure4 fresh 32 (room 16) ≡ record { number = 12; length = 0; state = fresh }
+  line_refused : line_answer figure4 fresh 32 (room 16) ≡ line_refusal 12 fresh
   closing : closing_answer figure4 fresh (room 16) ≡ record { number = 0; length = 16 }
   closing_over_lem : closing_over figure4 fresh (room 16) ≡ text ("fired 0 0 0 0 0" ∷ [])
-  closing_short : closing_answer figure4 fresh (room 15) ≡ record { number = 13; length = 0 }
-  closing_misfit : closing_answer figure4 zeros (room 15) ≡ record { number = 21; length = 0 }
+  closing_short : closing_answer figure4 fresh (room 15) ≡ write_refusal 13
+  closing_misfit : closing_answer figure4 zeros (room 15) ≡ write_refusal 21
   closing_misfit_over : closing_over figure4 zeros (room 16) ≡ room 16
 
 called : Called
 unfolding all_below any_below sum_below pick_below signed padded table flat_map
     nodes channels kind parameter wire from to port feeds depths stations depth inputs wrap exact next_value port_value next_of
-    judge bad_kind bad_wire bad_port fed_twice not_fed bad_stations bad_depth
+    judge sizes_number contents_number depth_number bad_kind bad_wire bad_port fed_twice not_fed bad_stations bad_depth
     letter reading held station_of place_after stopped leaving row_after
     waiting queue_of full blocked arriving input stop_below stop_above channel_reading channel_after
     node_at pending_at station_at queue_at channel_in state_of fresh_state zeros

@@ -26,10 +26,14 @@ pub record WriteTold : Type 0 where
   pub number : ℕ
   pub length : ℕ
 
+-- a writer that is refused answers its number beside 0
+abbrev pub write_refusal : ℕ → WriteTold
+write_refusal number = record { number = number; length = 0 }
+
 -- what the code's answer of a writer tells
 abbrev pub write_told : Result ℕ Refusal → WriteTold
 write_told (Ok length) = record { number = 0; length = length }
-write_told (Err refusal) = record { number = number refusal; length = 0 }
+write_told (Err refusal) = write_refusal (number refusal)
 
 -- the first `count` bytes of a slice are the text
 pub record Begins (bytes : List ℕ) (count : ℕ) (text : List ℕ) : Type 0 where

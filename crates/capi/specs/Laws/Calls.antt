@@ -4,8 +4,8 @@ use Rattle.std.proofs.Common.{true≢false, ◌∙◌, arith}
 use Rattle.std.proofs.Math.Logic.{⊎_elim}
 use Rattle.std.proofs.Math.Path.{refl, sym, ap}
 use Rattle.std.proofs.Math.Decide.{ℕ_discrete}
-use borrow.Author.Tests.{eqb-true, eqb-false, ne_eqb}
-use Rattle.std.proofs.Math.Dec.{eqb, ltb}
+use borrow.Author.Tests.{ne_eqb}
+use Rattle.std.proofs.Math.Dec.{ltb}
 use Rattle.std.proofs.lemmas.Bool.{lt-leb}
 use Rattle.laws.specs.Laws.Cases.{true_or_false, lt-or-ge}
 use Rattle.laws.specs.Choice.{◌if◌else◌}
@@ -155,21 +155,7 @@ module _
   line_number = ap (λ (a : LineTold). a.number) d.answered
 
   line_sized : answer.number ≡ 0 → state_length ≤ length bytes
-  unfolding line_answer
-  line_sized z =
-      let number = step_number img (state_in bytes) word 96 96 in
-      ⊎_elim
-      (λ (q : eqb number 0 ≡ true). sized img bytes (number_ok img (state_in bytes) word 96 96 (eqb-true number 0 q)).0)
-      (λ (q : eqb number 0 ≡ false). absurd (eqb-false number 0 q (rw q at (sym line_number ∙ z))))
-      (true_or_false (eqb number 0))
-
-  -- where the line was written the returned state is the one after the cycle
-  line_after : answer.number ≡ 0 → answer.state ≡ state_after img word (state_in bytes)
-  line_after z =
-      (line_made (record {
-        answered = ap (λ k. record { number = k; length = answer.length; state = answer.state }) (sym z) ∙ d.answered;
-        over = d.over;
-      })).1
+  line_sized z = sized img bytes (number_ok img (state_in bytes) word 96 96 (line_made d z).2).0
 
   pub line_called :
       {written : Result ℕ Refusal} {left : List ℕ} → answer.number ≡ 0 → WriteDone (state_bytes answer.state) bytes written left
@@ -180,7 +166,7 @@ module _
       record {
         numbered = l.0 ∙ sym z ∙ line_number;
         measured = ap (λ (a : LineTold). a.length) d.answered;
-        changed = l.1 ∙ rw (l.0, line_after z);
+        changed = l.1 ∙ rw (l.0, (line_made d z).1);
         over = d.over;
       }
 

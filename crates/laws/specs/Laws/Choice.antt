@@ -18,3 +18,14 @@ past k later false e = (refl, e)
 pub past_number : (number later : ℕ) → (number then later) ≡ 0 → (number ≡ 0) × (later ≡ 0)
 past_number zero later e = (refl, e)
 past_number (suc k) later e = let h : suc k ≡ 0 = rw (ne_eqb (suc k) 0 (λ q. omega arith)) at e in absurd (omega arith)
+
+-- ---- two chains that begin alike
+-- they have the same answer if the rest has, where it is asked: where the first test has failed
+pub alike : (k later other : ℕ) (test : Bool) → (test ≡ false → later ≡ other) → (k if test else later) ≡ (k if test else other)
+alike k later other true h = refl
+alike k later other false h = h refl
+
+-- and where the number that they begin with is 0
+pub alike_number : (number later other : ℕ) → (number ≡ 0 → later ≡ other) → (number then later) ≡ (number then other)
+alike_number zero later other h = h refl
+alike_number (suc k) later other h = rw (ne_eqb (suc k) 0 (λ q. omega arith))

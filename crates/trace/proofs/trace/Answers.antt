@@ -1,11 +1,7 @@
 -- `trace::trace` meets its contract. Assumes nothing.
 use mathlib.Core.Path.{sym}
 use Rattle.trace_input.specs.Laws.Head.{head_whole}
-use Rattle.trace_input.specs.Laws.Input.{image_taken}
 use Rattle.trace.proofs.trace.Goals as goal
-
-pub print_trace-requires-clause-image_value : goal.print_trace-requires-clause-image_value
-print_trace-requires-clause-image_value g c = rw c.image_length.ensures.value (image_taken c.args.input.now)
 
 pub print_trace-requires-clause-input_value : goal.print_trace-requires-clause-input_value
 print_trace-requires-clause-input_value g c =

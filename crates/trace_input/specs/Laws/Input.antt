@@ -1,47 +1,44 @@
 -- Laws of an input: how long its image is, where its words lie, and what its number says. Assumes nothing.
-use Rattle.std.specs.Prelude.{Bool, true, false, not, List, ◌≡◌, refl, ◌^◌, eqb, ltb, get_or, take, drop}
+use Rattle.std.specs.Prelude.{false, List, ◌≡◌, refl, ◌^◌, eqb, get_or, take, drop}
 use Rattle.std.specs.Int.{from_le_bytes, w64}
 use Rattle.std.specs.Simd.{first_chunks}
-use Rattle.std.proofs.Common.{⊎_elim, sym, ap, ◌∙◌, not-suc-le-zero, mul-zero, mul-suc, eqb-true, ltb-false, ne_eqb, length-take-le, drop-drop, get_or-drop}
+use Rattle.std.proofs.Common.{⊎_elim, sym, ap, ◌∙◌, not-suc-le-zero, mul-zero, mul-suc, eqb-true, ltb-false, drop-drop, get_or-drop}
 use Prim.Native.Nat.{ℕ, zero, suc, ◌+◌, ◌*◌, ◌-◌, ◌/◌, ◌%◌, ◌<◌, ◌≤◌, min}
 use native.Mathlib.Omega.{arith}
 use Rattle.std.proofs.lemmas.Bool.{not-false}
 use Rattle.std.proofs.Math.ListN.{length, length-take, replicate, get_or-eq_default}
 use Rattle.std.proofs.Math.Seq.{get_or-take}
-use Rattle.io.specs.Counts.{IsPrefixLen}
 use Rattle.laws.specs.Below.{any_below}
 use Rattle.laws.specs.Laws.Below.{any_none, any_same}
 use Rattle.laws.specs.Laws.Cases.{lt-or-ge}
-use Rattle.laws.specs.Choice.{◌if◌else◌}
-use Rattle.laws.specs.Laws.Choice.{past}
+use Rattle.laws.specs.Laws.Choice.{past, past_number}
 use Rattle.laws.specs.Laws.Lists.{take_min}
 use Rattle.laws.specs.Laws.Table.{length-table, table_at}
-use Rattle.image.specs.Image.{nodes, channels, four_bytes}
-use Rattle.verdict.specs.Judge.{judge}
-use Rattle.verdict.specs.Laws.Accepted.{accepted}
+use Rattle.image.specs.Image.{nodes, channels, four_bytes, length_due}
+use Rattle.verdict.specs.Judge.{sizes_number, contents_number, judge}
+use Rattle.verdict.specs.Laws.Sized.{sized, judge_sized}
 use Rattle.cycle.specs.Word.{sets_above}
-use Rattle.trace_input.specs.Input.{image_due, image_of, word_at, word_count, words_of, above_at, any_above, number_from, input_number}
+use Rattle.trace_input.specs.Input.{image_of, word_at, word_count, words_of, above_at, any_above, input_number}
 
 -- ---- the image
 module _ (input : List ℕ) where
   -- the image of an input is as long as is due, or as the input
-  pub image_length : length (image_of input) ≡ min (image_due input) (length input)
+  pub image_length : length (image_of input) ≡ min (length_due input) (length input)
   unfolding image_of
-  image_length = length-take (image_due input) input
+  image_length = length-take (length_due input) input
 
-  -- the image of an input is the input's first bytes
-  pub image_taken : take (length (image_of input)) input ≡ image_of input
+  -- as many bytes of an input as are due, or as it has, are its image
+  pub image_first : (n : ℕ) → n ≡ min (length_due input) (length input) → take n input ≡ image_of input
   unfolding image_of
-  image_taken = rw length-take (sym (take_min (image_due input) input))
+  image_first n e = rw e (sym (take_min (length_due input) input))
 
-  -- a number of bytes, as many as are due or as the input has, counts the image
-  pub image_counts : (n : ℕ) → n ≡ min (image_due input) (length input) → (n ≡ length (image_of input)) × IsPrefixLen n input
-  image_counts n e = let h : n ≤ length input = omega arith in (e ∙ sym image_length, (h, sym (length-take-le n input h)))
+  pub image_within : length (image_of input) ≤ length input
+  image_within = omega (arith, image_length)
 
   -- the image of an input has the input's N and C
   pub image_sizes : (nodes (image_of input) ≡ nodes input) × (channels (image_of input) ≡ channels input)
-  unfolding image_of image_due nodes channels
-  image_sizes = (get_or-take (image_due input) input 0 0 (omega arith), get_or-take (image_due input) input 1 0 (omega arith))
+  unfolding image_of nodes channels
+  image_sizes = (get_or-take (length_due input) input 0 0 (omega arith), get_or-take (length_due input) input 1 0 (omega arith))
 
 -- ---- the words
 chunk_at : {A : Type 0} (n k : ℕ) (xs : List A) (i : ℕ) (d : List A) → i < k → get_or (first_chunks n k xs) i d ≡ take n (drop (n * i) xs)
@@ -88,7 +85,7 @@ module _ (input : List ℕ) where
   pub tail_words : (length input - length (image_of input)) / 8 ≡ word_count input
   unfolding word_count
   tail_words =
-      let e : length input - min (image_due input) (length input) ≡ length input - image_due input = omega arith in
+      let e : length input - min (length_due input) (length input) ≡ length input - length_due input = omega arith in
       rw (image_length input, e)
 
   pub word_there : (k : ℕ) → k < word_count input → get_or (words_of input) k 0 ≡ word_at input k
@@ -109,8 +106,8 @@ module _ (input : List ℕ) where
   word_read k =
       ⊎_elim
       (λ (h : k < word_count input).
-      let due : length (image_of input) ≡ image_due input = omega (arith, image_length input, h) in
-      rw (chunk_at 8 (word_count input) (drop (length (image_of input)) input) k (replicate 8 0) h, drop-drop, due, word_there k h) (chunk_word input (image_due input + 8 * k)))
+      let due : length (image_of input) ≡ length_due input = omega (arith, image_length input, h) in
+      rw (chunk_at 8 (word_count input) (drop (length (image_of input)) input) k (replicate 8 0) h, drop-drop, due, word_there k h) (chunk_word input (length_due input + 8 * k)))
       (λ (h : word_count input ≤ k).
       let none = get_or-eq_default (first_chunks 8 (word_count input) (drop (length (image_of input)) input)) (replicate 8 0) {n = k} (rw length_chunks h) in
       rw (word_past k h, none))
@@ -122,53 +119,54 @@ above_read input =
     any_same (λ k. sets_above (nodes input) (get_or (words_of input) k 0)) (above_at input) (word_count input) (λ k h. rw (word_there input k h))
 
 -- ---- the number
--- where an input's number is 0 no test holds
-never : (k : ℕ) (early ragged : Bool) → (suc k if early else 3 if ragged else suc k) ≡ 0 → ⊥
-never k true ragged e = omega arith
-never k false true e = omega arith
-never k false false e = omega arith
+-- none of an input's numbers has a cause in it
+pub record Clear (input : List ℕ) (size : ℕ) : Type 0 where
+  pub sizes : sizes_number (image_of input) ≡ 0
+  pub no_3 : (size - length_due input) % 8 ≡ 0
+  pub contents : contents_number (image_of input) ≡ 0
+  pub no_14 : (size - length_due input) / 8 ≤ 4096
+  pub no_12 : any_above input ≡ false
 
-clear :
-    (judged tail : ℕ) (above : Bool) → number_from judged tail above ≡ 0
-    → (judged ≡ 0) × (tail % 8 ≡ 0) × (tail / 8 ≤ 4096) × (above ≡ false)
-clear zero tail above e =
-    let h3 = past 2 _ _ e in
-    let h14 = past 13 _ _ h3.1 in
-    let h12 = past 11 _ _ h14.1 in
-    (refl, eqb-true (tail % 8) 0 (not-false (eqb (tail % 8) 0) h3.0), ltb-false 4096 (tail / 8) h14.0, h12.0)
-clear (suc k) tail above e = absurd (never k (ltb (suc k) 4) (not (eqb (tail % 8) 0)) (rw (ne_eqb (suc k) 0 (λ q. omega arith)) at e))
-
-pub number-clear :
-    (input : List ℕ) (size : ℕ) → input_number input size ≡ 0
-    → (judge (image_of input) ≡ 0) × ((size - image_due input) % 8 ≡ 0) × ((size - image_due input) / 8 ≤ 4096) × (any_above input ≡ false)
+pub clear : (input : List ℕ) (size : ℕ) → input_number input size ≡ 0 → Clear input size
 unfolding input_number
-number-clear input size e = clear (judge (image_of input)) (size - image_due input) (any_above input) e
+clear input size e =
+    let tail = size - length_due input in
+    let sizes = past_number (sizes_number (image_of input)) _ e in
+    let h3 = past 2 _ _ sizes.1 in
+    let contents = past_number (contents_number (image_of input)) _ h3.1 in
+    let h14 = past 13 _ _ contents.1 in
+    let h12 = past 11 _ _ h14.1 in
+    record {
+      sizes = sizes.0;
+      no_3 = eqb-true (tail % 8) 0 (not-false (eqb (tail % 8) 0) h3.0);
+      contents = contents.0;
+      no_14 = ltb-false 4096 (tail / 8) h14.0;
+      no_12 = h12.0;
+    }
 
 -- ---- an input whose number is 0
 module _ (input : List ℕ) (e : input_number input (length input) ≡ 0) where
-  abbrev none :
-      (judge (image_of input) ≡ 0) × ((length input - image_due input) % 8 ≡ 0) × ((length input - image_due input) / 8 ≤ 4096)
-      × (any_above input ≡ false)
-  none = number-clear input (length input) e
+  abbrev none : Clear input (length input)
+  none = clear input (length input) e
 
   -- an input whose number is 0 has an accepted image
   pub input-accepted : judge (image_of input) ≡ 0
-  input-accepted = none.0
+  input-accepted = judge_sized (image_of input) none.sizes ∙ none.contents
 
   -- an input whose number is 0 is its image and whole words, with nothing missing or left over
   pub input-whole : length input ≡ length (image_of input) + 8 * length (words_of input)
-  unfolding image_due word_count
+  unfolding word_count
   input-whole =
-      let whole = (accepted (image_of input) input-accepted).whole in
-      rw (length-words input) (omega (arith, whole, image_sizes input, image_length input, none.1))
+      let whole = (sized (image_of input) none.sizes).whole in
+      rw (length-words input) (omega (arith, whole, image_sizes input, image_length input, none.no_3))
 
   -- an input whose number is 0 has at most 4,096 words
   pub words_few : length (words_of input) ≤ 4096
   unfolding word_count
-  words_few = rw (length-words input) none.2
+  words_few = rw (length-words input) none.no_14
 
   -- no word of an input whose number is 0 sets a bit at or above N
   pub words_below : (k : ℕ) → k < length (words_of input) → sets_above (nodes (image_of input)) (get_or (words_of input) k 0) ≡ false
   words_below k h =
       let l : k < word_count input = rw (length-words input) at h in
-      rw ((image_sizes input).0, word_there input k l) (any_none (above_at input) k (word_count input) none.3 l)
+      rw ((image_sizes input).0, word_there input k l) (any_none (above_at input) k (word_count input) none.no_12 l)

@@ -1,10 +1,11 @@
 -- What each way out of a call for a line has done. Assumes nothing.
-use Rattle.std.specs.Prelude.{true, false, List, ◌≡◌, ℕ, ◌≤◌, ◌<◌, eqb, ℤ, pos, length, drop, Result, Ok, Err}
-use Rattle.std.proofs.Common.{⊎_elim, sym, ◌∙◌, arith}
+use Rattle.std.specs.Prelude.{not, List, ◌≡◌, refl, ℕ, zero, suc, ◌≤◌, ◌<◌, eqb, ℤ, pos, length, drop, Result, Ok, Err}
+use Rattle.std.proofs.Common.{sym, ◌∙◌, arith}
 use Rattle.std.proofs.Math.Path.{ap}
-use borrow.Author.Tests.{eq-eqb, ne_eqb, eqb-false}
+use borrow.Author.Tests.{ne_eqb}
 use Rattle.std.proofs.Math.ListN.{take, get_or, get_or-append}
-use Rattle.laws.specs.Laws.Cases.{true_or_false}
+use Rattle.laws.specs.Choice.{◌if◌else◌, ◌then◌}
+use Rattle.laws.specs.Laws.Choice.{past_number}
 use Rattle.laws.specs.Table.{table}
 use Rattle.laws.specs.Laws.Table.{length-table, table_at, table_same, take-table}
 use Rattle.image.specs.Image.{nodes, channels}
@@ -22,10 +23,10 @@ use Rattle.fitting.specs.Laws.Number.{state_ok}
 use Rattle.engine.specs.Answer.{StepTold, step_number, number_of_step, step_answer, letters_written, values_written, StepDone}
 use Rattle.engine.specs.Laws.Answer.{number_ok}
 use Rattle.text.specs.Lines.{line_text, closing_text, reading_in}
-use Rattle.writer.specs.Write.{written_answer, WriteDone, WriteTold, write_told}
+use Rattle.writer.specs.Write.{written_answer, WriteDone, WriteTold, write_refusal, write_told}
 use Rattle.writer.specs.Laws.Write.{told_ok}
 use Rattle.tracer.specs.Trace.{cycle_text, firings_of}
-use Rattle.tracer.specs.Done.{LineTold, line_answer, line_over, LineDone, closing_answer, closing_over, ClosingDone}
+use Rattle.tracer.specs.Done.{LineTold, line_refusal, line_reply, line_answer, line_over, LineDone, closing_answer, closing_over, ClosingDone}
 
 -- ---- a step that is lent 96 places
 module _
@@ -83,15 +84,15 @@ module _ (img : List ℕ) (s : State) (word : ℕ) (out : List ℕ) where
   -- a call for a cycle's line whose step is refused
   pub line_refused :
       {number : ℕ} → number ≡ step_number img s word 96 96 → (number ≡ 0 → ⊥)
-      → LineDone img s word out (record { number = number; length = 0; state = s }) out
+      → LineDone img s word out (line_refusal number s) out
   unfolding line_answer line_over
-  line_refused {number} e n = let q = ne_eqb number 0 n in record { answered = rw (← e, q); over = rw (← e, q) }
+  line_refused {number} e n = let q = ne_eqb number 0 n in record { answered = rw (← e, q, q); over = rw (← e, q) }
 
   module _ {text left : List ℕ} (e : 0 ≡ step_number img s word 96 96) (t : text ≡ cycle_text img s) where
     -- a call for a cycle's line that is longer than the slice
     pub line_long :
         {refusal : Refusal} → WriteDone text out (Err refusal) left
-        → LineDone img s word out (record { number = number refusal; length = 0; state = s }) left
+        → LineDone img s word out (line_refusal (number refusal) s) left
     unfolding line_answer line_over
     line_long {refusal} d =
         let n = ne_eqb (number refusal) 0 (λ z. absurd (omega (arith, z, number_positive refusal))) in
@@ -100,14 +101,14 @@ module _ (img : List ℕ) (s : State) (word : ℕ) (out : List ℕ) where
     -- a call for a cycle's line that was written
     pub line_written :
         {n : ℕ} {after : State} → WriteDone text out (Ok n) left → after ≡ state_after img word s
-        → LineDone img s word out (record { number = 0; length = n; state = after }) left
+        → LineDone img s word out (line_reply n after) left
     unfolding line_answer line_over
     line_written d a = record { answered = rw (← e, ← t, ← d.answered, a); over = d.over ∙ rw (← e, t) }
 
 -- ---- the closing line
 module _ (img : List ℕ) (s : State) (out : List ℕ) where
   pub closing_refused :
-      {number : ℕ} → number ≡ state_number img s → (number ≡ 0 → ⊥) → ClosingDone img s out (record { number = number; length = 0 }) out
+      {number : ℕ} → number ≡ state_number img s → (number ≡ 0 → ⊥) → ClosingDone img s out (write_refusal number) out
   unfolding closing_answer closing_over
   closing_refused {number} e n = let q = ne_eqb number 0 n in record { answered = rw (← e, q); over = rw (← e, q) }
 
@@ -120,38 +121,40 @@ module _ (img : List ℕ) (s : State) (out : List ℕ) where
       let t = take-table (firings_at s) (nodes img) 64 (accepted img j).few_nodes in
       record { answered = ap write_told d.answered ∙ rw (← e, t); over = d.over ∙ rw (← e, t) }
 
--- ---- for callers: an answer says that the line was written, and that the cycle was made
+-- ---- for callers: an answer of number 0 says that the line was written, that the cycle was made, and that nothing was refused before
+-- a call answers a refusal by a number, or a reply where that is 0: an answer of number 0 is the reply
+replied :
+    {A : Type 0} (told : A → ℕ) (refusal : ℕ → A) → ((n : ℕ) → told (refusal n) ≡ n) → (number : ℕ) {answer reply : A}
+    → answer ≡ (refusal number if not (eqb number 0) else reply) → told answer ≡ 0 → (number ≡ 0) × (answer ≡ reply)
+replied told refusal same zero e z = (refl, e)
+replied told refusal same (suc k) {answer} e z =
+    let h : answer ≡ refusal (suc k) = rw (ne_eqb (suc k) 0 (λ q. omega arith)) at e in
+    let n : told answer ≡ suc k = ap told h ∙ same (suc k) in
+    absurd (omega (arith, n, z))
+
 pub line_made :
-    {img : List ℕ} {s : State} {word : ℕ} {out left : List ℕ} {n : ℕ} {after : State}
-    → LineDone img s word out (record { number = 0; length = n; state = after }) left
-    → WriteDone (cycle_text img s) out (Ok n) left × (after ≡ state_after img word s)
+    {img : List ℕ} {s : State} {word : ℕ} {out left : List ℕ} {answer : LineTold}
+    → LineDone img s word out answer left → answer.number ≡ 0
+    → WriteDone (cycle_text img s) out (Ok answer.length) left × (answer.state ≡ state_after img word s) × (step_number img s word 96 96 ≡ 0)
 unfolding line_answer line_over
-line_made {img} {s} {word} {out} {n = n} d =
-    let number = step_number img s word 96 96 in
-    let answer = written_answer (cycle_text img s) out in
-    let z = ap (λ (a : LineTold). a.number) d.answered in
-    let l = ap (λ (a : LineTold). a.length) d.answered in
-    ⊎_elim
-    (λ (q : eqb number 0 ≡ true).
-    let w : 0 ≡ (write_told answer).number = rw q at z in
-    let k : n ≡ (write_told answer).length = rw q at l in (
-      record { answered = told_ok answer w k; over = d.over ∙ rw q },
-      ap (λ (a : LineTold). a.state) d.answered ∙ rw (q, eq-eqb _ 0 (sym w)),
-    ))
-    (λ (q : eqb number 0 ≡ false). let w : number ≡ 0 = sym (rw q at z) in absurd (eqb-false number 0 q w))
-    (true_or_false (eqb number 0))
+line_made {img} {s} {word} {out} d z =
+    let step = step_number img s word 96 96 in
+    let written = written_answer (cycle_text img s) out in
+    let r = replied (λ (a : LineTold). a.number) (λ n. line_refusal n s) (λ n. refl) (step then (write_told written).number) d.answered z in
+    let n = past_number step _ r.0 in (
+      record { answered = told_ok written (sym n.1) (ap (λ (a : LineTold). a.length) r.1); over = d.over ∙ rw n.0 },
+      ap (λ (a : LineTold). a.state) r.1,
+      n.0,
+    )
 
 pub closing_made :
-    {img : List ℕ} {s : State} {out left : List ℕ} {n : ℕ} → ClosingDone img s out (record { number = 0; length = n }) left
-    → WriteDone (closing_text (firings_of img s)) out (Ok n) left
+    {img : List ℕ} {s : State} {out left : List ℕ} {answer : WriteTold} → ClosingDone img s out answer left → answer.number ≡ 0
+    → WriteDone (closing_text (firings_of img s)) out (Ok answer.length) left
 unfolding closing_answer closing_over
-closing_made {img} {s} {out} {n = n} d =
-    let answer = written_answer (closing_text (firings_of img s)) out in
-    let z = ap (λ (a : WriteTold). a.number) d.answered in
-    let l = ap (λ (a : WriteTold). a.length) d.answered in
-    ⊎_elim
-    (λ (q : eqb (state_number img s) 0 ≡ true).
-    let w : 0 ≡ (write_told answer).number = rw q at z in
-    let k : n ≡ (write_told answer).length = rw q at l in record { answered = told_ok answer w k; over = d.over ∙ rw q })
-    (λ (q : eqb (state_number img s) 0 ≡ false). let w : state_number img s ≡ 0 = sym (rw q at z) in absurd (eqb-false (state_number img s) 0 q w))
-    (true_or_false (eqb (state_number img s) 0))
+closing_made {img} {s} {out} d z =
+    let written = written_answer (closing_text (firings_of img s)) out in
+    let r = replied (λ (a : WriteTold). a.number) write_refusal (λ n. refl) (state_number img s) d.answered z in
+    record {
+      answered = told_ok written (sym z ∙ ap (λ (a : WriteTold). a.number) r.1) (ap (λ (a : WriteTold). a.length) r.1);
+      over = d.over ∙ rw r.0;
+    }

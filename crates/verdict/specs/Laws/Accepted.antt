@@ -1,16 +1,18 @@
 -- Acceptance is the record `Accepted`, both ways. Assumes nothing.
-use Rattle.std.specs.Prelude.{true, List, ◌≡◌, ℕ, ◌≤◌, ◌<◌, length}
-use Rattle.std.proofs.Common.{arith, ltb-false, le-ltb}
+use Rattle.std.specs.Prelude.{true, List, ◌≡◌, ℕ, ◌≤◌, ◌<◌}
+use Rattle.std.proofs.Common.{◌∙◌, arith, ltb-false, le-ltb}
 use Rattle.laws.specs.Below.{any_below, sum_below}
 use Rattle.laws.specs.Laws.Below.{any_where, any_hit, none-iff}
+use Rattle.laws.specs.Laws.Choice.{past_number}
 use Rattle.image.specs.Image.{nodes, channels, kind, to, feeds, stations}
 use Rattle.kinds.specs.Laws.Kinds.{inputs_few}
 use Rattle.image.specs.Loops.Ports.{Wired}
 use Rattle.image.specs.Readers.{wire_at, Placed}
-use Rattle.verdict.specs.Judge.{judge, bad_kind, bad_wire, bad_port, bad_stations, bad_depth}
+use Rattle.verdict.specs.Judge.{sizes_number, contents_number, judge, bad_kind, bad_wire, bad_port, bad_stations, bad_depth}
 use Rattle.image.specs.Loops.PortsLaws.{feeds_ok}
-use Rattle.verdict.specs.Laws.Judge.{sizes_ok, length_ok, kind_ok, wire_ok, port_ok, stations_ok, depth_ok}
+use Rattle.verdict.specs.Laws.Judge.{kind_ok, wire_ok, port_ok, stations_ok, depth_ok}
 use Rattle.verdict.specs.Accepted.{Feeder, Accepted}
+use Rattle.verdict.specs.Laws.Sized.{sized, unsized, judge_sized}
 use Rattle.verdict.specs.Laws.Clear.{clear, unclear}
 use Rattle.verdict.specs.Laws.Fed.{once-iff, fed_iff}
 
@@ -26,14 +28,16 @@ feeder img n p e =
 
 -- an image that the judge accepts has all the facts of `Accepted`
 pub accepted : (img : List ℕ) → judge img ≡ 0 → Accepted img
+unfolding judge
 accepted img e =
-    let s = clear img e in
-    let z = (sizes_ok img).0 s.sized.no_2 in
+    let h = past_number (sizes_number img) (contents_number img) e in
+    let z = sized img h.0 in
+    let s = clear img h.1 in
     record {
-      some_nodes = z.0;
-      few_nodes = z.1;
-      few_channels = z.2;
-      whole = (length_ok img).0 s.sized.no_3;
+      some_nodes = z.some_nodes;
+      few_nodes = z.few_nodes;
+      few_channels = z.few_channels;
+      whole = z.whole;
       kinds = (none-iff (bad_kind img) (nodes img) (kind_ok img)).0 s.no_4;
       wires = (none-iff (bad_wire img) (channels img) (wire_ok img)).0 s.no_5;
       ports = (none-iff (bad_port img) (channels img) (port_ok img)).0 s.no_6;
@@ -47,14 +51,10 @@ accepted img e =
 -- the judge accepts an image that has all the facts of `Accepted`
 pub accepts : (img : List ℕ) → Accepted img → judge img ≡ 0
 accepts img a =
-    unclear img
+    judge_sized img
+    (unsized img record { some_nodes = a.some_nodes; few_nodes = a.few_nodes; few_channels = a.few_channels; whole = a.whole })
+    ∙ unclear img
     record {
-      sized =
-          record {
-            no_1 = le-ltb (length img) 2 (omega (arith, a.whole));
-            no_2 = (sizes_ok img).1 (a.some_nodes, a.few_nodes, a.few_channels);
-            no_3 = (length_ok img).1 a.whole;
-          };
       no_4 = (none-iff (bad_kind img) (nodes img) (kind_ok img)).1 a.kinds;
       no_5 = (none-iff (bad_wire img) (channels img) (wire_ok img)).1 a.wires;
       no_6 = (none-iff (bad_port img) (channels img) (port_ok img)).1 a.ports;

@@ -1,20 +1,12 @@
--- Acceptance is that the judge's eleven tests have all failed. Assumes nothing.
-use Rattle.std.specs.Prelude.{false, not, ◌||◌, List, ◌≡◌, ℕ, ◌+◌, ◌*◌, eqb, ltb, length}
+-- The contents of an image are sound where the judge's tests for 4 to 11 have all failed. Assumes nothing.
+use Rattle.std.specs.Prelude.{false, List, ◌≡◌, ℕ, ltb}
 use Rattle.laws.specs.Below.{any_below, sum_below}
-use Rattle.laws.specs.Range.{outside}
 use Rattle.laws.specs.Laws.Choice.{past}
 use Rattle.image.specs.Image.{nodes, channels, stations}
-use Rattle.verdict.specs.Judge.{judge, bad_kind, bad_wire, bad_port, fed_twice, not_fed, bad_stations, bad_depth}
+use Rattle.verdict.specs.Judge.{depth_number, contents_number, bad_kind, bad_wire, bad_port, fed_twice, not_fed, bad_stations, bad_depth}
 
--- numbers 1 to 3 have no cause in the image
-pub record Sized (img : List ℕ) : Type 0 where
-  pub no_1 : ltb (length img) 2 ≡ false
-  pub no_2 : (outside 1 64 (nodes img) || ltb 96 (channels img)) ≡ false
-  pub no_3 : not (eqb (length img) (2 + 5 * nodes img + 5 * channels img)) ≡ false
-
--- none of the numbers 1 to 11 has a cause in the image
+-- none of the numbers 4 to 11 has a cause in the image
 pub record Clear (img : List ℕ) : Type 0 where
-  pub sized : Sized img
   pub no_4 : any_below (bad_kind img) (nodes img) ≡ false
   pub no_5 : any_below (bad_wire img) (channels img) ≡ false
   pub no_6 : any_below (bad_port img) (channels img) ≡ false
@@ -24,13 +16,10 @@ pub record Clear (img : List ℕ) : Type 0 where
   pub no_10 : any_below (bad_depth img) (channels img) ≡ false
   pub no_11 : ltb 256 (sum_below (stations img) (channels img)) ≡ false
 
-pub clear : (img : List ℕ) → judge img ≡ 0 → Clear img
-unfolding judge
+pub clear : (img : List ℕ) → contents_number img ≡ 0 → Clear img
+unfolding contents_number depth_number
 clear img e =
-    let h1 = past 0 _ _ e in
-    let h2 = past 1 _ _ h1.1 in
-    let h3 = past 2 _ _ h2.1 in
-    let h4 = past 3 _ _ h3.1 in
+    let h4 = past 3 _ _ e in
     let h5 = past 4 _ _ h4.1 in
     let h6 = past 5 _ _ h5.1 in
     let h7 = past 6 _ _ h6.1 in
@@ -39,7 +28,6 @@ clear img e =
     let h10 = past 9 _ _ h9.1 in
     let h11 = past 10 _ _ h10.1 in
     record {
-      sized = record { no_1 = h1.0; no_2 = h2.0; no_3 = h3.0 };
       no_4 = h4.0;
       no_5 = h5.0;
       no_6 = h6.0;
@@ -50,6 +38,6 @@ clear img e =
       no_11 = h11.0;
     }
 
-pub unclear : (img : List ℕ) → Clear img → judge img ≡ 0
-unfolding judge
-unclear img s = rw (s.sized.no_1, s.sized.no_2, s.sized.no_3, s.no_4, s.no_5, s.no_6, s.no_7, s.no_8, s.no_9, s.no_10, s.no_11)
+pub unclear : (img : List ℕ) → Clear img → contents_number img ≡ 0
+unfolding contents_number depth_number
+unclear img s = rw (s.no_4, s.no_5, s.no_6, s.no_7, s.no_8, s.no_9, s.no_10, s.no_11)

@@ -1,12 +1,12 @@
 -- What it says that one of the judge's tests fails at a node or a channel, both ways. Assumes nothing.
-use Rattle.std.specs.Prelude.{false, not, ◌||◌, List, ◌↔◌, ◌≡◌, ℕ, ◌<◌, ◌≤◌, ◌+◌, ◌*◌, eqb, leb, ltb, length}
+use Rattle.std.specs.Prelude.{false, not, ◌||◌, List, ◌↔◌, ◌≡◌, ℕ, ◌<◌, ◌≤◌, eqb, leb, ltb, length}
 use Rattle.std.proofs.Common.{ap, eqb-true, eq-eqb}
 use Rattle.std.proofs.lemmas.Bool.{not-false}
 use Rattle.laws.specs.Range.{outside}
 use Rattle.laws.specs.Laws.Range.{inside}
 use Rattle.laws.specs.Laws.Tests.{ge-iff, gt-iff, nor-iff}
 use Rattle.kinds.specs.Kinds.{last_kind, inputs}
-use Rattle.image.specs.Image.{nodes, channels, kind, from, to, port, stations, depth}
+use Rattle.image.specs.Image.{nodes, channels, kind, from, to, port, stations, depth, length_due}
 use Rattle.verdict.specs.Judge.{bad_kind, bad_wire, bad_port, bad_stations, bad_depth}
 
 module _ (img : List ℕ) where
@@ -15,9 +15,9 @@ module _ (img : List ℕ) where
       let both = nor-iff (outside 1 64 (nodes img)) (ltb 96 (channels img)) (inside 1 64 (nodes img)) (ge-iff 96 (channels img)) in
       (λ e. let h = both.0 e in (h.0.0, h.0.1, h.1), λ h. both.1 ((h.0, h.1), h.2))
 
-  pub length_ok : (not (eqb (length img) (2 + 5 * nodes img + 5 * channels img)) ≡ false) ↔ (length img ≡ 2 + 5 * nodes img + 5 * channels img)
+  pub length_ok : (not (eqb (length img) (length_due img)) ≡ false) ↔ (length img ≡ length_due img)
   length_ok =
-      let due = 2 + 5 * nodes img + 5 * channels img in
+      let due = length_due img in
       (λ e. eqb-true (length img) due (not-false (eqb (length img) due) e), λ q. ap not (eq-eqb (length img) due q))
 
   pub kind_ok : (n : ℕ) → (bad_kind img n ≡ false) ↔ ((1 ≤ kind img n) × (kind img n ≤ last_kind))

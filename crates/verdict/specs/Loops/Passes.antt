@@ -1,19 +1,9 @@
--- What the judge's passes look at: the last numbers of the chain, and the ports that the channels below c feed.
-use Rattle.std.specs.Prelude.{Bool, true, false, not, List, ℕ, ltb, get_or}
-use Rattle.laws.specs.Below.{any_below, sum_below}
-use Rattle.laws.specs.Choice.{◌if◌else◌}
+-- What the judge's passes look at: the ports that the channels below c feed.
+use Rattle.std.specs.Prelude.{Bool, true, false, not, List, ℕ, get_or}
+use Rattle.laws.specs.Below.{any_below}
 use Rattle.kinds.specs.Kinds.{inputs}
-use Rattle.image.specs.Image.{channels, kind, to, port, stations}
-use Rattle.verdict.specs.Judge.{bad_stations, bad_depth}
+use Rattle.image.specs.Image.{kind, to, port}
 use Rattle.image.specs.Loops.Ports.{port_place, ports_below}
-
--- the first of the numbers 9 to 11 that has a cause in the image, and 0 if none has
-unfoldable pub depth_number : List ℕ → ℕ
-depth_number img =
-    9 if any_below (bad_stations img) (channels img) else
-    10 if any_below (bad_depth img) (channels img) else
-    11 if ltb 256 (sum_below (stations img) (channels img)) else
-    0
 
 -- at the place of each port, whether a channel below c feeds it
 unfoldable pub fed_below : List ℕ → ℕ → List Bool

@@ -10,10 +10,9 @@ use Rattle.refusal.specs.declared.Refusal.{Refusal}
 use Rattle.refusal.specs.Number.{number}
 use Rattle.refusal.specs.Laws.Number.{number_positive}
 use Rattle.image.specs.Image.{nodes, channels}
-use Rattle.verdict.specs.Judge.{judge, bad_kind, bad_wire, bad_port}
-use Rattle.verdict.specs.Laws.Judge.{sizes_ok}
-use Rattle.verdict.specs.Loops.Passes.{depth_number, fed_below, twice_below, misses}
-use Rattle.verdict.specs.Laws.Clear.{Sized}
+use Rattle.verdict.specs.Judge.{depth_number, sizes_number, contents_number, bad_kind, bad_wire, bad_port}
+use Rattle.verdict.specs.Loops.Passes.{fed_below, twice_below, misses}
+use Rattle.verdict.specs.Laws.Sized.{sized}
 use Rattle.image.specs.Loops.Ports.{Wired}
 use Rattle.verdict.specs.Loops.PassesLaws.{wired, twice_is, misses_is}
 use Rattle.verdict.proofs.passes.contents.Goals.{After-any, After-any-2, After-any-3, After-any-4}
@@ -36,10 +35,10 @@ six c =
     (YieldsList-from_range 0 _ (channels c.args.image.now) refl (omega (arith, c.channels-channels.ensures))) (λ x b q k. search (rules, tests)) ∙ any_range _ _)
 
 -- an image in which none of the numbers 1 to 6 has a cause
-module _ (img : List ℕ) (sized : Sized img) (no_4 : any_below (bad_kind img) (nodes img) ≡ false)
+module _ (img : List ℕ) (sizes : sizes_number img ≡ 0) (no_4 : any_below (bad_kind img) (nodes img) ≡ false)
     (no_5 : any_below (bad_wire img) (channels img) ≡ false) (no_6 : any_below (bad_port img) (channels img) ≡ false) where
   few : nodes img ≤ 64
-  few = ((sizes_ok img).0 sized.no_2).1
+  few = (sized img sizes).few_nodes
 
   -- every port that is fed has a place
   places : Wired img (channels img)
@@ -47,28 +46,28 @@ module _ (img : List ℕ) (sized : Sized img) (no_4 : any_below (bad_kind img) (
 
   -- where numbers 1 to 6 have no cause, 7, 8 and the depths are left, and the passes' tests for 7 and 8 are the definition's
   left : (ports : List Bool) → ports ≡ fed_below img (channels img)
-      → judge img ≡ (7 if twice_below img (channels img) else 8 if any_below (misses img ports) (nodes img) else depth_number img)
-  unfolding judge depth_number
+      → contents_number img ≡ (7 if twice_below img (channels img) else 8 if any_below (misses img ports) (nodes img) else depth_number img)
+  unfolding contents_number
   left ports e =
-      rw (sized.no_1, sized.no_2, sized.no_3, no_4, no_5, no_6, e, twice_is img (channels img) places, misses_is img few places)
+      rw (no_4, no_5, no_6, e, twice_is img (channels img) places, misses_is img few places)
 
 pub returns-then-any : goal.returns-then-any
-unfolding judge
+unfolding contents_number
 returns-then-any c =
     let a = goal.at.returns-then-any c in
-    rw (c.requires.no_1, c.requires.no_2, c.requires.no_3, four a.After-any ∙ c.if-any.true)
+    rw (four a.After-any ∙ c.if-any.true)
 
 pub returns-then-any-2 : goal.returns-then-any-2
-unfolding judge
+unfolding contents_number
 returns-then-any-2 c =
     let a = goal.at.returns-then-any-2 c in
-    rw (c.requires.no_1, c.requires.no_2, c.requires.no_3, four a.After-any ∙ c.if-any.false, five a.After-any-2 ∙ c.if-any-2.true)
+    rw (four a.After-any ∙ c.if-any.false, five a.After-any-2 ∙ c.if-any-2.true)
 
 pub returns-then-any-3 : goal.returns-then-any-3
-unfolding judge
+unfolding contents_number
 returns-then-any-3 c =
     let a = goal.at.returns-then-any-3 c in
-    rw (c.requires.no_1, c.requires.no_2, c.requires.no_3, four a.After-any ∙ c.if-any.false, five a.After-any-2 ∙ c.if-any-2.false, six a.After-any-3 ∙ c.if-any-3.true)
+    rw (four a.After-any ∙ c.if-any.false, five a.After-any-2 ∙ c.if-any-2.false, six a.After-any-3 ∙ c.if-any-3.true)
 
 pub feed_ports-requires : goal.feed_ports-requires
 feed_ports-requires c =
@@ -84,7 +83,7 @@ pub returns-in_err-ports : goal.returns-in_err-ports
 returns-in_err-ports c =
     let a = goal.at.returns-in_err-ports c in
     let r = c.in_err-ports.field-0.0 in
-    let refused : judge c.args.image.now ≡ number r =
+    let refused : contents_number c.args.image.now ≡ number r =
     rw (left c.args.image.now c.requires (four a.After-any ∙ c.if-any.false) (five a.After-any-2 ∙ c.if-any-2.false) (six a.After-any-3 ∙ c.if-any-3.false) _ refl)
     (first r _ _ c.in_err-ports.ensures.number) in
     rw refused (search rules)

@@ -5,8 +5,7 @@ use Rattle.std.proofs.lemmas.Iterator.Search.{any_from_yields_List}
 use Rattle.laws.specs.Below.{any_below}
 use Rattle.laws.specs.Laws.Below.{any_range}
 use Rattle.image.specs.Image.{channels}
-use Rattle.verdict.specs.Judge.{bad_stations, bad_depth}
-use Rattle.verdict.specs.Loops.Passes.{depth_number}
+use Rattle.verdict.specs.Judge.{bad_stations, bad_depth, depth_number}
 use Rattle.verdict.proofs.passes.judge_depths.Goals.{After-any, After-any-2}
 use Rattle.verdict.proofs.passes.judge_depths.Goals as goal
 
