@@ -85,19 +85,26 @@ enum channel_bench_number {
 /* A state as bytes, each number low byte first: the first CHANNEL_BENCH_STATE_BYTES of what is handed over. What follows them
  * is not looked at, and stays. Where there are fewer, the state does not fit (21); for a fresh one there is no room (13).
  *
- *     place           bytes   what
- *     0               4       cycle count
- *     4 + 8 n         4       node n (0 to 63): the value that it shows, signed
- *     8 + 8 n         4       its firings
- *     516 + c         1       channel c (0 to 95): 1 if a token is pending, 0 if not
- *     612 + 72 c + 9 j    9   its station j, counted from 0 (0 to 7): a station record
- *     7524 + 33 c     32      its queue: 8 tokens, signed, oldest first
- *     7556 + 33 c     1       how many tokens the queue holds
+ *     from                            what stands there, one after another
+ *     0                               the cycle count, 4 bytes
+ *     CHANNEL_BENCH_NODES_PLACE       64 nodes, each the value that it shows, 4 bytes, signed, and its firings, 4 bytes
+ *     CHANNEL_BENCH_PENDING_PLACE     a byte for each of 96 channels: 1 if a token is pending, 0 if not
+ *     CHANNEL_BENCH_STATIONS_PLACE    768 station records, the 8 of channel 0 first, those of channel 1 next
+ *     CHANNEL_BENCH_QUEUES_PLACE      a queue for each of 96 channels: 8 tokens of 4 bytes, signed, oldest first, and one
+ *                                     byte that says how many it holds
  *
  * A station record is two tokens of 4 bytes, signed, oldest first, and one byte that says how many it holds. A place that
  * holds no token, or that no node, channel or station of the image uses, is 0. */
+#define CHANNEL_BENCH_NODES_PLACE 4
+#define CHANNEL_BENCH_PENDING_PLACE 516
+#define CHANNEL_BENCH_STATIONS_PLACE 612
+#define CHANNEL_BENCH_QUEUES_PLACE 7524
 #define CHANNEL_BENCH_STATE_BYTES 10692
+
+/* How many bytes a node of a state has, a station record and a queue. */
+#define CHANNEL_BENCH_NODE_BYTES 8
 #define CHANNEL_BENCH_STATION_BYTES 9
+#define CHANNEL_BENCH_QUEUE_BYTES 33
 
 /* Room that is enough for every line of a trace. */
 #define CHANNEL_BENCH_HEADER_LINE_BYTES 13

@@ -11,9 +11,9 @@ mod strict;
 #[path = "../../examples/rust/channel_bench.rs"]
 mod channel_bench;
 
-use channel_bench::raw;
-use engine::{Netlist, STATE_BYTES};
-use row::{Station, STATION_BYTES};
+use channel_bench::{raw, STATE_BYTES, STATION_BYTES};
+use engine::Netlist;
+use row::Station;
 use std::hint::black_box;
 use std::time::{Duration, Instant};
 

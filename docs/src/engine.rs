@@ -1,16 +1,10 @@
 //! The cycle engine as one would write it in ordinary Rust, to time ours against: in place, on structs. `step` and
 //! `run` work on a state of bytes, as the C boundary has it, and test what ours test.
+use crate::channel_bench::{NODES_PLACE, PENDING_PLACE, QUEUES_PLACE, STATIONS_PLACE};
+use crate::channel_bench::{NODE_BYTES, QUEUE_BYTES, STATE_BYTES, STATION_BYTES};
 use crate::judge::judge;
-use crate::row::{self, Station, STATION_BYTES};
+use crate::row::{self, Station};
 
-/// How many bytes a state has; include/channel_bench.h has the layout.
-pub const STATE_BYTES: usize = 10_692;
-
-const NODES: usize = 4;
-const PENDING: usize = 516;
-const STATIONS: usize = 612;
-const QUEUES: usize = 7_524;
-const QUEUE_BYTES: usize = 33;
 const MOST_CYCLES: u32 = 1_000_000;
 
 pub struct Channel {
@@ -148,14 +142,14 @@ impl State {
     pub fn read(bytes: &[u8]) -> Self {
         let mut state = State::zeros();
         state.cycles = row::four(bytes, 0) as u32;
-        for (node, b) in state.nodes.iter_mut().zip(bytes[NODES..PENDING].as_chunks::<8>().0) {
+        for (node, b) in state.nodes.iter_mut().zip(bytes[NODES_PLACE..PENDING_PLACE].as_chunks::<NODE_BYTES>().0) {
             *node = Node { value: row::four(b, 0), firings: row::four(b, 4) as u32 };
         }
-        state.pending.copy_from_slice(&bytes[PENDING..STATIONS]);
-        for (station, b) in state.stations.iter_mut().zip(bytes[STATIONS..QUEUES].as_chunks().0) {
+        state.pending.copy_from_slice(&bytes[PENDING_PLACE..STATIONS_PLACE]);
+        for (station, b) in state.stations.iter_mut().zip(bytes[STATIONS_PLACE..QUEUES_PLACE].as_chunks().0) {
             *station = Station::read(b);
         }
-        for (queue, b) in state.queues.iter_mut().zip(bytes[QUEUES..].as_chunks().0) {
+        for (queue, b) in state.queues.iter_mut().zip(bytes[QUEUES_PLACE..].as_chunks().0) {
             *queue = Queue::read(b);
         }
         state
@@ -163,16 +157,16 @@ impl State {
 
     /// Writes a state of `STATE_BYTES`.
     pub fn write(&self, bytes: &mut [u8]) {
-        bytes[..NODES].copy_from_slice(&self.cycles.to_le_bytes());
-        for (node, b) in self.nodes.iter().zip(bytes[NODES..PENDING].chunks_exact_mut(8)) {
+        bytes[..NODES_PLACE].copy_from_slice(&self.cycles.to_le_bytes());
+        for (node, b) in self.nodes.iter().zip(bytes[NODES_PLACE..PENDING_PLACE].chunks_exact_mut(NODE_BYTES)) {
             b[..4].copy_from_slice(&node.value.to_le_bytes());
             b[4..].copy_from_slice(&node.firings.to_le_bytes());
         }
-        bytes[PENDING..STATIONS].copy_from_slice(&self.pending);
-        for (station, b) in self.stations.iter().zip(bytes[STATIONS..QUEUES].chunks_exact_mut(STATION_BYTES)) {
+        bytes[PENDING_PLACE..STATIONS_PLACE].copy_from_slice(&self.pending);
+        for (station, b) in self.stations.iter().zip(bytes[STATIONS_PLACE..QUEUES_PLACE].chunks_exact_mut(STATION_BYTES)) {
             station.write(b);
         }
-        for (queue, b) in self.queues.iter().zip(bytes[QUEUES..].chunks_exact_mut(QUEUE_BYTES)) {
+        for (queue, b) in self.queues.iter().zip(bytes[QUEUES_PLACE..].chunks_exact_mut(QUEUE_BYTES)) {
             queue.write(b);
         }
     }

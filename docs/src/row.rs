@@ -1,8 +1,6 @@
 //! A relay station and a row of them as one would write them in ordinary Rust: for the engine, and to time our row
 //! bench against.
-
-/// How many bytes a station record has.
-pub const STATION_BYTES: usize = 9;
+use crate::channel_bench::STATION_BYTES;
 
 #[derive(Clone, Copy, Default, PartialEq)]
 pub struct Station {

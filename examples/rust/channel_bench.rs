@@ -30,11 +30,29 @@ pub const IMAGE_BYTES: usize = 802;
 /// The most cycles that a state counts, and the last cycle of the strict system.
 pub const CYCLES: u32 = 1_000_000;
 
+/// Where the nodes begin among the bytes of a state.
+pub const NODES_PLACE: usize = 4;
+
+/// Where the channels' pending bytes begin.
+pub const PENDING_PLACE: usize = 516;
+
+/// Where the station records begin.
+pub const STATIONS_PLACE: usize = 612;
+
+/// Where the queues begin.
+pub const QUEUES_PLACE: usize = 7_524;
+
 /// How many bytes a state has.
 pub const STATE_BYTES: usize = 10_692;
 
+/// How many bytes a node has: the value that it shows and its firings, 4 bytes each.
+pub const NODE_BYTES: usize = 8;
+
 /// How many bytes a station record has: two tokens of 4 bytes, oldest first, and how many it holds.
 pub const STATION_BYTES: usize = 9;
+
+/// How many bytes a queue has: eight tokens of 4 bytes, oldest first, and how many it holds.
+pub const QUEUE_BYTES: usize = 33;
 
 /// Room that is enough for the header line of a trace.
 pub const HEADER_LINE_BYTES: usize = 13;
@@ -149,7 +167,7 @@ impl State {
     /// If `node` is 64 or more.
     pub fn value(&self, node: usize) -> i32 {
         assert!(node < NODES, "a state has 64 nodes");
-        i32::from_le_bytes(self.four(4 + 8 * node))
+        i32::from_le_bytes(self.four(NODES_PLACE + NODE_BYTES * node))
     }
 
     /// How often a node has fired.
@@ -159,7 +177,7 @@ impl State {
     /// If `node` is 64 or more.
     pub fn firings(&self, node: usize) -> u32 {
         assert!(node < NODES, "a state has 64 nodes");
-        u32::from_le_bytes(self.four(8 + 8 * node))
+        u32::from_le_bytes(self.four(NODES_PLACE + NODE_BYTES * node + 4))
     }
 
     fn four(&self, at: usize) -> [u8; 4] {

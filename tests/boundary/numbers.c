@@ -1,6 +1,7 @@
 /* The numbers of the header and the library: each number that calls answer is provoked and compared with its name, each
- * kind makes its next value, and each limit passes where one more does not. tests/boundary.sh tests that no number's name
- * is missing here. Prints a line for each failure and last 'N passed, M failed'. */
+ * kind makes its next value, each limit passes where one more does not, and each part of a state stands at its place.
+ * tests/boundary.sh tests that no number's name is missing here. Prints a line for each failure and last
+ * 'N passed, M failed'. */
 #include <inttypes.h>
 #include <stdio.h>
 #include <string.h>
@@ -184,11 +185,44 @@ static void sizes(void) {
     NUMBER(CHANNEL_BENCH_REFUSED_ROOM, channel_bench_fresh(image, sized(1, 0), state, CHANNEL_BENCH_STATE_BYTES - 1));
 }
 
+static int64_t four(size_t place) {
+    return state[place] | state[place + 1] << 8 | state[place + 2] << 16 | (int64_t)state[place + 3] << 24;
+}
+
+/* The parts of a state, each where the header has it: the last node, the last channel and its second station. The nodes that
+ * the last one feeds are stalled, so its channels fill with its values from 100 on: 8 in the queue, 2 in each of two
+ * stations, and one pending. */
+static void places(void) {
+    size_t length = sized(CHANNEL_BENCH_NODES, CHANNEL_BENCH_CHANNELS);
+    size_t node = CHANNEL_BENCH_NODES_PLACE + 63 * CHANNEL_BENCH_NODE_BYTES;
+    size_t station = CHANNEL_BENCH_STATIONS_PLACE + (95 * CHANNEL_BENCH_STATIONS + 1) * CHANNEL_BENCH_STATION_BYTES;
+    size_t queue = CHANNEL_BENCH_QUEUES_PLACE + 95 * CHANNEL_BENCH_QUEUE_BYTES;
+
+    parameters()[4 * 63] = 100;
+    for (int c = 0; c < CHANNEL_BENCH_CHANNELS; c++) {
+        depths()[2 * c] = 2;
+    }
+    channel_bench_fresh(image, length, state, sizeof state);
+    for (int i = 0; i < 50; i++) {
+        channel_bench_step(image, length, state, sizeof state, 0xffffffff, letters, sizeof letters, values,
+                           CHANNEL_BENCH_CHANNELS);
+    }
+    expect("the cycle count", 50, four(0));
+    expect("CHANNEL_BENCH_NODES_PLACE", 112, four(node));
+    expect("CHANNEL_BENCH_NODE_BYTES", 12, four(node + 4));
+    expect("CHANNEL_BENCH_PENDING_PLACE", 1, state[CHANNEL_BENCH_PENDING_PLACE + 95]);
+    expect("CHANNEL_BENCH_STATIONS_PLACE", 108, four(station));
+    expect("CHANNEL_BENCH_STATION_BYTES", 2, state[station + CHANNEL_BENCH_STATION_BYTES - 1]);
+    expect("CHANNEL_BENCH_QUEUES_PLACE", 100, four(queue));
+    expect("CHANNEL_BENCH_QUEUE_BYTES", 8, state[queue + CHANNEL_BENCH_QUEUE_BYTES - 1]);
+}
+
 int main(void) {
     numbers();
     limits();
     all_kinds();
     sizes();
+    places();
     printf("%d passed, %d failed\n", passed, failed);
     return failed != 0;
 }

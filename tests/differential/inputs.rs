@@ -1,6 +1,7 @@
 //! Pseudo-random inputs: images, states, stall words, station records and the room of lent arrays, good and bad.
 use crate::calls::Coming;
-use crate::simulator::{inputs, Channel, Core, Netlist, State, STATE_BYTES, STATION_BYTES};
+use crate::simulator::{inputs, node_place, pending_place, queue_place, station_place};
+use crate::simulator::{Channel, Core, Netlist, State, STATE_BYTES, STATION_BYTES};
 use std::collections::VecDeque;
 
 /// A splitmix64 generator.
@@ -428,15 +429,15 @@ fn damage_state(bytes: &mut [u8], random: &mut Random, net: &Netlist) {
     let channel = if random.one_in(4) { c.min(95) } else { random.below(c) };
     let stations = net.channels.get(channel).map_or(0, |ch| ch.stations);
     let station = if random.one_in(4) { stations.min(7) } else { random.below(stations) };
-    let record = 612 + 72 * channel + 9 * station;
-    let queue = 7_524 + 33 * channel;
+    let record = station_place(channel, station);
+    let queue = queue_place(channel);
     let nudge = random.pick(&[1, 255]);
     let at = match random.below(9) {
         0 => 0,
         1 => random.below(4),
-        2 => 4 + 8 * node + random.below(4),
-        3 => 8 + 8 * node,
-        4 => 516 + channel,
+        2 => node_place(node) + random.below(4),
+        3 => node_place(node) + 4,
+        4 => pending_place(channel),
         5 => record + 8,
         6 => record + random.below(8),
         7 => queue + 32,
@@ -445,7 +446,7 @@ fn damage_state(bytes: &mut [u8], random: &mut Random, net: &Netlist) {
     bytes[at] = bytes[at].wrapping_add(nudge);
     // A firing more, and a pending byte that may make up for it.
     if random.one_in(8) {
-        bytes[516 + channel] ^= 1;
+        bytes[pending_place(channel)] ^= 1;
     }
 }
 
@@ -457,19 +458,19 @@ pub fn redraw_field(bytes: &mut [u8], random: &mut Random, net: &Netlist) {
         random.below(end)
     };
     let (node, channel) = (place(net.nodes.len(), 64), place(net.channels.len(), 96));
-    let station = 612 + 72 * channel + 9 * random.below(8);
-    let queue = 7_524 + 33 * channel;
+    let station = station_place(channel, random.below(8));
+    let queue = queue_place(channel);
     let token = 4 * random.below(2);
     let count = if random.one_in(4) { random.draw() as u8 } else { random.below(4) as u8 };
     let few = random.below(32) as u32;
     match random.below(8) {
-        0 => put(bytes, 4 + 8 * node, random.value() as u32),
+        0 => put(bytes, node_place(node), random.value() as u32),
         1 => put(bytes, station + token, random.value() as u32),
         2 => put(bytes, queue + token, random.value() as u32),
-        3 => bytes[516 + channel] = count,
+        3 => bytes[pending_place(channel)] = count,
         4 => bytes[station + 8] = count,
         5 => bytes[queue + 32] = count,
-        6 => put(bytes, 8 + 8 * node, if random.one_in(8) { u32::MAX } else { few }),
+        6 => put(bytes, node_place(node) + 4, if random.one_in(8) { u32::MAX } else { few }),
         _ => put(bytes, 0, random.pick(&[0, 999_999, 1_000_000, 1_000_001, u32::MAX, few])),
     }
 }

@@ -5,7 +5,7 @@ use crate::channel_bench::{self, raw, Answer, Refused};
 use crate::harness::{hex, Group, Lent};
 use crate::inputs::{self, Random};
 use crate::lists::number_at;
-use crate::simulator::{self, judge, Netlist, STATE_BYTES};
+use crate::simulator::{self, judge, node_place, pending_place, queue_place, station_place, Netlist, STATE_BYTES};
 
 pub fn known(group: &mut Group, _: &mut Random) {
     figure4(group);
@@ -183,7 +183,7 @@ fn long_runs(group: &mut Group) {
         let words: Vec<u64> = if stalls { sparse_words() } else { vec![0; 100_000] };
         let mut state = Lent::of(&simulator::fresh(&image, STATE_BYTES).unwrap(), 7);
         let ran = calls::run(group, &image, &mut state, &words);
-        let firings: u64 = (0..64).map(|i| u64::from(number_at(state.read(), 8 + 8 * i))).sum();
+        let firings: u64 = (0..64).map(|i| u64::from(number_at(state.read(), node_place(i) + 4))).sum();
         group
             .case(0, || format!("100,000 cycles, stalls {stalls}"))
             .same("number and steps", ran, (0, 100_000))
@@ -211,9 +211,9 @@ fn checksum(state: &[u8]) -> u64 {
         (0..count).flat_map(move |i| [u32::from(value(i) < 0), value(i).unsigned_abs()])
     };
     let count = |at: usize| std::iter::once(u32::from(state[at]));
-    let nodes = (0..64).map(|i| 4 + 8 * i).flat_map(|at| values(at, 1).chain([number_at(state, at + 4)]));
-    let stations = (0..768).map(|i| 612 + 9 * i).flat_map(|at| values(at, 2).chain(count(at + 8)));
-    let channels = (0..96).map(|c| (516 + c, 7_524 + 33 * c));
+    let nodes = (0..64).map(node_place).flat_map(|at| values(at, 1).chain([number_at(state, at + 4)]));
+    let stations = (0..768).map(|i| station_place(i / 8, i % 8)).flat_map(|at| values(at, 2).chain(count(at + 8)));
+    let channels = (0..96).map(|c| (pending_place(c), queue_place(c)));
     let channels = channels.flat_map(|(pending, queue)| count(pending).chain(values(queue, 8)).chain(count(queue + 32)));
     let fields = [number_at(state, 0)].into_iter().chain(nodes).chain(stations).chain(channels);
     const MODULUS: u64 = (1 << 32) - 5;

@@ -4,7 +4,7 @@ use crate::calls;
 use crate::channel_bench::raw;
 use crate::harness::{hex, Case, Group, Lent};
 use crate::inputs::{self, Pattern, Random, Shape};
-use crate::simulator::{Netlist, Strict, STATE_BYTES};
+use crate::simulator::{node_place, Netlist, Strict, STATE_BYTES};
 
 /// What is kept of a list of calls from the fresh state.
 struct List {
@@ -45,7 +45,7 @@ impl List {
             arrived.push(values[c]);
         }
         self.words.push(word);
-        self.firings.push((0..self.net.nodes.len()).map(|i| number_at(&self.state, 8 + 8 * i)).collect());
+        self.firings.push((0..self.net.nodes.len()).map(|i| number_at(&self.state, node_place(i) + 4)).collect());
     }
 
     /// A run on a copy of the state, and the steps whose letters its cycles have. Answers the run's number and steps,
@@ -121,8 +121,8 @@ fn check_list<D: Fn() -> String>(mut case: Case<'_, D>, list: List, wrong: Vec<S
                 case.same(&format!("token {t} of channel {c}"), token, strict[channel.from]);
             }
         }
-        for i in (0..nodes).filter(|&i| number_at(&list.state, 8 + 8 * i) as usize == t) {
-            let value = number_at(&list.state, 4 + 8 * i) as i32;
+        for i in (0..nodes).filter(|&i| number_at(&list.state, node_place(i) + 4) as usize == t) {
+            let value = number_at(&list.state, node_place(i)) as i32;
             case.same(&format!("value of node {i} after {t} firings"), value, strict[i]);
         }
         system.cycle();

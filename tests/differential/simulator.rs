@@ -1,11 +1,31 @@
 //! A second simulator, written from the rules alone: what the library's answers are compared with. It is made to be
 //! read, not to be fast. Every place that holds tokens is a queue of its own, and a state of bytes is taken apart and
 //! put together only at the border.
+use crate::channel_bench::{NODES_PLACE, NODE_BYTES, PENDING_PLACE, QUEUES_PLACE, QUEUE_BYTES, STATIONS, STATIONS_PLACE};
+pub use crate::channel_bench::{STATE_BYTES, STATION_BYTES};
 use std::collections::VecDeque;
 
-pub const STATE_BYTES: usize = 10_692;
-pub const STATION_BYTES: usize = 9;
 const MOST_CYCLES: u32 = 1_000_000;
+
+/// Where a node stands among the bytes of a state; its firings 4 bytes behind it.
+pub fn node_place(node: usize) -> usize {
+    NODES_PLACE + NODE_BYTES * node
+}
+
+/// Where the pending byte of a channel stands.
+pub fn pending_place(channel: usize) -> usize {
+    PENDING_PLACE + channel
+}
+
+/// Where the record of a channel's station stands.
+pub fn station_place(channel: usize, station: usize) -> usize {
+    STATIONS_PLACE + STATION_BYTES * (STATIONS * channel + station)
+}
+
+/// Where the queue of a channel stands.
+pub fn queue_place(channel: usize) -> usize {
+    QUEUES_PLACE + QUEUE_BYTES * channel
+}
 
 /// A number that refuses, or what was asked for.
 pub type Verdict<T> = Result<T, u8>;
@@ -260,19 +280,19 @@ impl State {
         let mut state = State::fresh(net);
         state.cycle = signed(bytes, 0) as u32;
         for (i, shell) in state.shells.iter_mut().enumerate() {
-            let (value, firings) = (signed(bytes, 4 + 8 * i), signed(bytes, 8 + 8 * i) as u32);
+            let (value, firings) = (signed(bytes, node_place(i)), signed(bytes, node_place(i) + 4) as u32);
             *shell = Shell { value, firings };
         }
         for (c, wire) in state.wires.iter_mut().enumerate() {
-            wire.pending = match bytes[516 + c] {
+            wire.pending = match bytes[pending_place(c)] {
                 0 => false,
                 1 => true,
                 _ => return Err(21),
             };
             for (j, station) in wire.stations.iter_mut().enumerate() {
-                *station = held(&bytes[612 + 72 * c + 9 * j..][..STATION_BYTES], 2).ok_or(21)?;
+                *station = held(&bytes[station_place(c, j)..][..STATION_BYTES], 2).ok_or(21)?;
             }
-            wire.queue = held(&bytes[7_524 + 33 * c..][..33], net.channels[c].depth).ok_or(21)?;
+            wire.queue = held(&bytes[queue_place(c)..][..QUEUE_BYTES], net.channels[c].depth).ok_or(21)?;
         }
         // What reading has not looked at is written as 0.
         if state.bytes() == bytes && state.counts_fit(net) {
@@ -299,15 +319,15 @@ impl State {
         let mut bytes = vec![0; STATE_BYTES];
         bytes[..4].copy_from_slice(&self.cycle.to_le_bytes());
         for (i, shell) in self.shells.iter().enumerate() {
-            bytes[4 + 8 * i..][..4].copy_from_slice(&shell.value.to_le_bytes());
-            bytes[8 + 8 * i..][..4].copy_from_slice(&shell.firings.to_le_bytes());
+            bytes[node_place(i)..][..4].copy_from_slice(&shell.value.to_le_bytes());
+            bytes[node_place(i) + 4..][..4].copy_from_slice(&shell.firings.to_le_bytes());
         }
         for (c, wire) in self.wires.iter().enumerate() {
-            bytes[516 + c] = u8::from(wire.pending);
+            bytes[pending_place(c)] = u8::from(wire.pending);
             for (j, station) in wire.stations.iter().enumerate() {
-                put(station, &mut bytes[612 + 72 * c + 9 * j..][..STATION_BYTES]);
+                put(station, &mut bytes[station_place(c, j)..][..STATION_BYTES]);
             }
-            put(&wire.queue, &mut bytes[7_524 + 33 * c..][..33]);
+            put(&wire.queue, &mut bytes[queue_place(c)..][..QUEUE_BYTES]);
         }
         bytes
     }

@@ -14,7 +14,8 @@ use Rattle.engine.specs.Answer.{number_of_step, letters_written, values_written}
 use Rattle.writer.specs.Write.{written_answer, written_over, write_told}
 use Rattle.tracer.specs.Done.{line_answer, line_over, closing_answer, closing_over}
 use Rattle.bench.specs.Bench.{bench_answer, bench_after}
-use Rattle.layout.specs.Bytes.{state_bytes, state_length, station_bytes, state_in}
+use Rattle.layout.specs.Places.{state_length}
+use Rattle.layout.specs.Bytes.{state_bytes, station_bytes, state_in}
 
 -- bytes whose first are now those of a state; what followed stays
 unfoldable pub state_over : State → List ℕ → List ℕ

@@ -8,38 +8,34 @@
 ghost use Rattle.std.specs.Prelude.{[], ◌≡◌, ◌+◌, ◌*◌, ◌≤◌, length, get_or, min};
 ghost use Rattle.laws.specs.Lists.{padded};
 ghost use Rattle.laws.specs.Table.{table};
-ghost use Rattle.image.specs.Image.{four_bytes};
+ghost use Rattle.numbers.specs.Numbers.{four_bytes};
 ghost use Rattle.relay.specs.Station.{station_of};
-ghost use Rattle.layout.specs.Bytes.{token_in, node_in, station_in, queue_in, no_state, state_in, no_record, record_in, row_record, record_count};
+ghost use Rattle.layout.specs.Places.{node_length, record_length, queue_length, nodes_place, pending_place, stations_place, queues_place, state_length};
+ghost use Rattle.layout.specs.Bytes.{node_in, station_in, queue_in, no_state, state_in, no_record, record_in, row_record, record_count};
 
-use layout::{RECORD, STATE};
+use layout::{NODE, NODES, PENDING, QUEUE, QUEUES, RECORD, STATE, STATIONS};
+use numbers::{four_bytes, signed_in};
 use relay::Station;
 use shell::Queue;
 use state::{Node, State};
 use std::array;
 
-fn token_in(bytes: &[u8], at: usize) -> i32
-    ensures { result ≡ token_in bytes.now at }
-{
-    image::as_signed(image::four_bytes(bytes, at))
-}
-
 fn node_in(bytes: &[u8], at: usize) -> Node
-    requires { at + 8 ≤ length bytes.now }
+    requires { at + node_length ≤ length bytes.now }
     ensures { result ≡ node_in bytes.now at }
 {
     Node {
-        value: token_in(bytes, at),
-        firings: image::four_bytes(bytes, at + 4),
+        value: signed_in(bytes, at),
+        firings: four_bytes(bytes, at + 4),
     }
 }
 
 fn station_in(bytes: &[u8], at: usize) -> Station
-    requires { at + 9 ≤ length bytes.now }
+    requires { at + record_length ≤ length bytes.now }
     ensures { result ≡ station_in bytes.now at }
 {
-    let older = token_in(bytes, at);
-    let newer = token_in(bytes, at + 4);
+    let older = signed_in(bytes, at);
+    let newer = signed_in(bytes, at + 4);
     Station {
         tokens: [older, newer],
         count: bytes[at + 8],
@@ -47,11 +43,11 @@ fn station_in(bytes: &[u8], at: usize) -> Station
 }
 
 fn queue_in(bytes: &[u8], at: usize) -> Queue
-    requires { at + 33 ≤ length bytes.now }
+    requires { at + queue_length ≤ length bytes.now }
     ensures { result ≡ queue_in bytes.now at }
 {
     Queue {
-        tokens: array::from_fn(|i| token_in(bytes, at + 4 * i)),
+        tokens: array::from_fn(|i| signed_in(bytes, at + 4 * i)),
         count: bytes[at + 32],
     }
 }
@@ -59,31 +55,31 @@ fn queue_in(bytes: &[u8], at: usize) -> Queue
 // The parts of a state. Four functions and no generic one: each is one call of `from_fn`, and its
 // contract names the place and the size of its part.
 fn nodes_in(bytes: &[u8]) -> [Node; 64]
-    requires { 516 ≤ length bytes.now }
-    ensures { result ≡ table (λ n. node_in bytes.now (4 + 8 * n)) 64 }
+    requires { pending_place ≤ length bytes.now }
+    ensures { result ≡ table (λ n. node_in bytes.now (nodes_place + node_length * n)) 64 }
 {
-    array::from_fn(|n| node_in(bytes, 4 + 8 * n))
+    array::from_fn(|n| node_in(bytes, NODES + NODE * n))
 }
 
 fn pending_in(bytes: &[u8]) -> [u8; 96]
-    requires { 612 ≤ length bytes.now }
-    ensures { result ≡ table (λ c. get_or bytes.now (516 + c) 0) 96 }
+    requires { stations_place ≤ length bytes.now }
+    ensures { result ≡ table (λ c. get_or bytes.now (pending_place + c) 0) 96 }
 {
-    array::from_fn(|c| bytes[516 + c])
+    array::from_fn(|c| bytes[PENDING + c])
 }
 
 fn stations_in(bytes: &[u8]) -> [Station; 768]
-    requires { 7524 ≤ length bytes.now }
-    ensures { result ≡ table (λ i. station_in bytes.now (612 + 9 * i)) 768 }
+    requires { queues_place ≤ length bytes.now }
+    ensures { result ≡ table (λ i. station_in bytes.now (stations_place + record_length * i)) 768 }
 {
-    array::from_fn(|i| station_in(bytes, 612 + 9 * i))
+    array::from_fn(|i| station_in(bytes, STATIONS + RECORD * i))
 }
 
 fn queues_in(bytes: &[u8]) -> [Queue; 96]
-    requires { 10692 ≤ length bytes.now }
-    ensures { result ≡ table (λ c. queue_in bytes.now (7524 + 33 * c)) 96 }
+    requires { state_length ≤ length bytes.now }
+    ensures { result ≡ table (λ c. queue_in bytes.now (queues_place + queue_length * c)) 96 }
 {
-    array::from_fn(|c| queue_in(bytes, 7524 + 33 * c))
+    array::from_fn(|c| queue_in(bytes, QUEUES + QUEUE * c))
 }
 
 // What fewer bytes than a state has are read as: a state that fits no image. An `Option` would be no
@@ -105,7 +101,7 @@ pub fn state_in(bytes: &[u8]) -> State
         return no_state();
     }
     State {
-        cycles: image::four_bytes(bytes, 0),
+        cycles: four_bytes(bytes, 0),
         nodes: nodes_in(bytes),
         pending: pending_in(bytes),
         stations: stations_in(bytes),

@@ -15,7 +15,9 @@ ghost use mathlib.Core.List.{List, flat_map, ◌++◌};
 ghost use Rattle.std.specs.Prelude.{[], ◌∷◌, ◌≡◌, ℕ, ◌+◌, ◌≤◌, length};
 ghost use Rattle.writer.specs.Put.{Put};
 ghost use Rattle.writer.specs.Write.{WriteDone};
-ghost use Rattle.layout.specs.Bytes.{number_bytes, token_bytes, node_bytes, station_bytes, queue_bytes, state_bytes, state_length};
+ghost use Rattle.numbers.specs.Numbers.{number_bytes, signed_bytes};
+ghost use Rattle.layout.specs.Places.{state_length};
+ghost use Rattle.layout.specs.Bytes.{node_bytes, station_bytes, queue_bytes, state_bytes};
 
 use layout::{RECORD, STATE};
 use refusal::Refusal;
@@ -45,7 +47,8 @@ fn put_all<F: Bytes<T>, T: Copy>(items: &[T], out: &mut [u8], at: usize) -> usiz
     end
 }
 
-// Stores bytes, and tells the place after them.
+// Stores bytes, given room for them, and tells the place after them. `writer::put` asks for no room, and
+// tests for it instead: at every number a state has, so that a step on bytes took a tenth longer.
 #[tactic(auto, using(writer::specs::Laws::Put::put_part))]
 fn put_bytes(bytes: &[u8], out: &mut [u8], at: usize) -> usize
     requires { at + length bytes.now ≤ length out.old }
@@ -63,18 +66,18 @@ impl Bytes<u32> for Numbers {
     ghost bytes = { number_bytes };
 
     fn put(item: u32, out: &mut [u8], at: usize) -> usize {
-        put_bytes(&item.to_le_bytes(), out, at)
+        put_bytes(&numbers::number_bytes(item), out, at)
     }
 }
 
-// Tokens as bytes.
-struct Tokens;
+// Signed numbers of 32 bits as bytes.
+struct Signed;
 
-impl Bytes<i32> for Tokens {
-    ghost bytes = { token_bytes };
+impl Bytes<i32> for Signed {
+    ghost bytes = { signed_bytes };
 
     fn put(item: i32, out: &mut [u8], at: usize) -> usize {
-        Numbers::put(item.cast_unsigned(), out, at)
+        put_bytes(&numbers::signed_bytes(item), out, at)
     }
 }
 
@@ -84,7 +87,7 @@ impl Bytes<Node> for Nodes {
     ghost bytes = { node_bytes };
 
     fn put(item: Node, out: &mut [u8], at: usize) -> usize {
-        let firings = Tokens::put(item.value, out, at);
+        let firings = Signed::put(item.value, out, at);
         Numbers::put(item.firings, out, firings)
     }
 }
@@ -92,10 +95,10 @@ impl Bytes<Node> for Nodes {
 // Stores tokens, and then how many of them are held, and tells the place after them.
 #[tactic(auto, using(writer::specs::Laws::Put::put_steps))]
 fn put_counted(tokens: &[i32], count: u8, out: &mut [u8], at: usize) -> usize
-    requires { at + length (flat_map token_bytes tokens.now ++ (count ∷ [])) ≤ length out.old }
-    ensures { Put (flat_map token_bytes tokens.now ++ (count ∷ [])) at out.old out.new result }
+    requires { at + length (flat_map signed_bytes tokens.now ++ (count ∷ [])) ≤ length out.old }
+    ensures { Put (flat_map signed_bytes tokens.now ++ (count ∷ [])) at out.old out.new result }
 {
-    let end = put_all::<Tokens, i32>(tokens, out, at);
+    let end = put_all::<Signed, i32>(tokens, out, at);
     out[end] = count;
     end + 1
 }

@@ -1,7 +1,7 @@
 -- The image: N and C, two parallel arrays for nodes, two for channels. An image is the list of its bytes; past its end a field reads 0.
-use Rattle.std.specs.Prelude.{Bool, ◌&&◌, List, ℕ, ◌+◌, ◌*◌, ◌^◌, eqb, ℤ, get_or}
+use Rattle.std.specs.Prelude.{Bool, ◌&&◌, List, ℕ, ◌+◌, ◌*◌, eqb, ℤ, get_or}
 use Rattle.laws.specs.Below.{most_below}
-use Rattle.laws.specs.Signed.{signed}
+use Rattle.numbers.specs.Numbers.{signed_in}
 
 -- "Sizes first: one byte N (nodes), one byte C (channels)."
 unfoldable pub nodes : List ℕ → ℕ
@@ -14,12 +14,9 @@ channels img = get_or img 1 0
 unfoldable pub kind : List ℕ → ℕ → ℕ
 kind img n = get_or img (2 + n) 0
 
--- "and N parameters of 4 bytes, signed two's complement, low byte first.": the number of the four bytes from a place on
-abbrev pub four_bytes : List ℕ → ℕ → ℕ
-four_bytes img at = get_or img at 0 + 2 ^ 8 * get_or img (at + 1) 0 + 2 ^ 16 * get_or img (at + 2) 0 + 2 ^ 24 * get_or img (at + 3) 0
-
+-- "and N parameters of 4 bytes, signed two's complement, low byte first."
 unfoldable pub parameter : List ℕ → ℕ → ℤ
-parameter img n = signed (four_bytes img (2 + nodes img + 4 * n))
+parameter img n = signed_in img (2 + nodes img + 4 * n)
 
 -- "Then two parallel arrays for channels: C wires of 3 bytes (from node, to node, input port),": where that of channel c begins
 unfoldable pub wire : List ℕ → ℕ → ℕ

@@ -2,10 +2,11 @@
 // image's end is 0.
 #![tactic(auto)]
 
-ghost use Rattle.std.specs.Prelude.{◌≡◌, get_or};
-ghost use Rattle.laws.specs.Signed.{signed};
-ghost use Rattle.image.specs.Image.{nodes, channels, kind, four_bytes, length_due};
+ghost use Rattle.std.specs.Prelude.{◌≡◌};
+ghost use Rattle.image.specs.Image.{nodes, channels, kind, length_due};
 ghost use Rattle.image.specs.Readers.{core_at, wire_at};
+
+use numbers::{byte_at, signed_in};
 
 // A node's fields. The kind is a number: that of a kind in an accepted image, any byte in another.
 #[derive(Clone, Copy)]
@@ -23,13 +24,6 @@ pub struct Wire {
     pub port: u8,
     pub stations: u8,
     pub depth: u8,
-}
-
-// Returns the byte at a place, 0 past the image's end.
-fn byte_at(image: &[u8], at: usize) -> u8
-    ensures { result ≡ get_or image.now at 0 }
-{
-    image.get(at).copied().unwrap_or(0)
 }
 
 // Returns N, the number of nodes, given an image: 0 for an empty one.
@@ -63,41 +57,15 @@ pub fn kind_at(image: &[u8], n: u8) -> u8
     byte_at(image, 2 + n as usize)
 }
 
-// Returns the number that the four bytes from a place on stand for, low byte first, each 0 past the end.
-// For other crates: to read numbers that are kept as bytes.
-pub fn four_bytes(image: &[u8], at: usize) -> u32
-    ensures { result ≡ four_bytes image.now at }
-{
-    if image.len() <= at {
-        return 0;
-    }
-    let bytes = [
-        byte_at(image, at),
-        byte_at(image, at + 1),
-        byte_at(image, at + 2),
-        byte_at(image, at + 3),
-    ];
-    u32::from_le_bytes(bytes)
-}
-
-// Returns the signed number that has the 32 bits of a number. For other crates: to read tokens that are
-// kept as bytes.
-#[tactic(auto, unfolding(laws::specs::Signed::signed))]
-pub fn as_signed(n: u32) -> i32
-    ensures { result ≡ signed n }
-{
-    n.cast_signed()
-}
-
 // Returns node n's fields, each 0 past the image's end.
 #[tactic(auto, unfolding(crate::specs::Readers::core_at, crate::specs::Image::parameter))]
 pub fn core_at(image: &[u8], n: u8) -> Core
     ensures { result ≡ core_at image.now n }
 {
-    let parameter = four_bytes(image, 2 + nodes(image) as usize + 4 * n as usize);
+    let at = 2 + nodes(image) as usize + 4 * n as usize;
     Core {
         kind: kind_at(image, n),
-        parameter: as_signed(parameter),
+        parameter: signed_in(image, at),
     }
 }
 

@@ -4,7 +4,8 @@ use Rattle.std.specs.Prelude.{List, ◌++◌, ◌≡◌, ℕ, ◌+◌, length}
 use Rattle.std.proofs.Common.{◌∙◌, arith, length-append}
 use Rattle.std.proofs.lemmas.Bool.{le-leb}
 use Rattle.state.specs.declared.State.{State}
-use Rattle.layout.specs.Bytes.{state_bytes, state_length, state_in}
+use Rattle.layout.specs.Places.{state_length}
+use Rattle.layout.specs.Bytes.{state_bytes, state_in}
 use Rattle.layout.specs.Laws.Bytes.{state_long}
 use Rattle.layout.specs.Typed.{Typed}
 use Rattle.layout.proofs.BackLaws.{places_back}

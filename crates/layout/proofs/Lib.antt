@@ -1,3 +1,3 @@
--- What is written is read back. It rests on the bytes of a number, and so stands where a changed definition of them is refused.
+-- What is written is read back.
 pub mod BackLaws
 pub mod Back

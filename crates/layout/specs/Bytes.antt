@@ -1,11 +1,9 @@
--- A state and station records as bytes: how they are written, and what bytes are read as. Each number stands low byte first, a signed one in two's
--- complement.
+-- A state and station records as bytes: how they are written, and what bytes are read as.
 use mathlib.Core.List.{List, [], ◌∷◌, ◌++◌, flat_map}
-use Rattle.std.specs.Prelude.{ℕ, suc, ◌+◌, ◌*◌, ◌-◌, ◌/◌, ◌%◌, ◌^◌, eqb, leb, ℤ, pos, negsuc, length, get_or}
+use Rattle.std.specs.Prelude.{ℕ, ◌+◌, ◌*◌, ◌/◌, eqb, leb, pos, length, get_or}
 use Rattle.laws.specs.Choice.{◌if◌else◌}
-use Rattle.laws.specs.Signed.{signed}
 use Rattle.laws.specs.Table.{table}
-use Rattle.image.specs.Image.{four_bytes}
+use Rattle.numbers.specs.Numbers.{number_bytes, signed_bytes, four_bytes, signed_in}
 use Rattle.relay.specs.declared.Station.{Station}
 use Rattle.relay.specs.Station.{no_station}
 use Rattle.shell.specs.declared.Queue.{Queue}
@@ -13,24 +11,12 @@ use Rattle.state.specs.declared.Node.{Node}
 use Rattle.state.specs.declared.State.{State}
 use Rattle.state.specs.State.{node_at, pending_at, queue_at}
 use Rattle.state.specs.Fresh.{zeros}
+use Rattle.layout.specs.Places.{node_length, record_length, queue_length, nodes_place, pending_place, stations_place, queues_place, state_length}
 
 -- ---- written
--- a number of 32 bits as bytes
-unfoldable pub number_bytes : ℕ → List ℕ
-number_bytes n = n % 2 ^ 8 ∷ n / 2 ^ 8 % 2 ^ 8 ∷ n / 2 ^ 16 % 2 ^ 8 ∷ n / 2 ^ 24 % 2 ^ 8 ∷ []
-
--- the number from 0 on that has the same 32 bits as a signed one
-unfoldable pub bits_of : ℤ → ℕ
-bits_of (pos n) = n
-bits_of (negsuc n) = 2 ^ 32 - suc n
-
--- a signed number as bytes
-unfoldable pub token_bytes : ℤ → List ℕ
-token_bytes value = number_bytes (bits_of value)
-
 -- a node as bytes: its value, its firings
 unfoldable pub node_bytes : Node → List ℕ
-node_bytes n = token_bytes n.value ++ number_bytes n.firings
+node_bytes n = signed_bytes n.value ++ number_bytes n.firings
 
 -- the bytes of g 0, g 1, .., g (n - 1), one after another
 abbrev pub each : {A : Type 0} → (A → List ℕ) → (ℕ → A) → ℕ → List ℕ
@@ -38,11 +24,11 @@ each f g n = flat_map f (table g n)
 
 -- a station record as bytes: its two tokens, oldest first, and how many it holds
 unfoldable pub station_bytes : Station → List ℕ
-station_bytes s = each token_bytes (λ i. get_or s.tokens i (pos 0)) 2 ++ (s.count ∷ [])
+station_bytes s = each signed_bytes (λ i. get_or s.tokens i (pos 0)) 2 ++ (s.count ∷ [])
 
 -- a queue as bytes: its eight tokens, oldest first, and how many it holds
 unfoldable pub queue_bytes : Queue → List ℕ
-queue_bytes q = each token_bytes (λ i. get_or q.tokens i (pos 0)) 8 ++ (q.count ∷ [])
+queue_bytes q = each signed_bytes (λ i. get_or q.tokens i (pos 0)) 8 ++ (q.count ∷ [])
 
 -- a state as bytes: the cycle count, the nodes, the pending bytes, the stations, the queues
 unfoldable pub state_bytes : State → List ℕ
@@ -53,36 +39,28 @@ state_bytes s =
     each station_bytes (λ i. get_or s.stations i no_station) 768 ++
     each queue_bytes (queue_at s) 96)))
 
--- how many bytes a state has
-abbrev pub state_length : ℕ
-state_length = 10692
-
 -- ---- read, from a place on
--- the signed number in the bytes from a place on
-unfoldable pub token_in : List ℕ → ℕ → ℤ
-token_in bytes at = signed (four_bytes bytes at)
-
 -- the node in the bytes from a place on
 unfoldable pub node_in : List ℕ → ℕ → Node
-node_in bytes at = record { value = token_in bytes at; firings = four_bytes bytes (at + 4) }
+node_in bytes at = record { value = signed_in bytes at; firings = four_bytes bytes (at + 4) }
 
 -- the station record in the bytes from a place on
 unfoldable pub station_in : List ℕ → ℕ → Station
-station_in bytes at = record { tokens = token_in bytes at ∷ token_in bytes (at + 4) ∷ []; count = get_or bytes (at + 8) 0 }
+station_in bytes at = record { tokens = signed_in bytes at ∷ signed_in bytes (at + 4) ∷ []; count = get_or bytes (at + 8) 0 }
 
 -- the queue in the bytes from a place on
 unfoldable pub queue_in : List ℕ → ℕ → Queue
-queue_in bytes at = record { tokens = table (λ i. token_in bytes (at + 4 * i)) 8; count = get_or bytes (at + 32) 0 }
+queue_in bytes at = record { tokens = table (λ i. signed_in bytes (at + 4 * i)) 8; count = get_or bytes (at + 32) 0 }
 
 -- the state in as many bytes as a state has, each part at its place
 unfoldable pub places_in : List ℕ → State
 places_in bytes =
     record {
       cycles = four_bytes bytes 0;
-      nodes = table (λ n. node_in bytes (4 + 8 * n)) 64;
-      pending = table (λ c. get_or bytes (516 + c) 0) 96;
-      stations = table (λ i. station_in bytes (612 + 9 * i)) 768;
-      queues = table (λ c. queue_in bytes (7524 + 33 * c)) 96;
+      nodes = table (λ n. node_in bytes (nodes_place + node_length * n)) 64;
+      pending = table (λ c. get_or bytes (pending_place + c) 0) 96;
+      stations = table (λ i. station_in bytes (stations_place + record_length * i)) 768;
+      queues = table (λ c. queue_in bytes (queues_place + queue_length * c)) 96;
     }
 
 -- what fewer bytes than a state has are read as: a state that fits no image, by its cycle count
@@ -99,15 +77,15 @@ no_record = record { tokens = pos 0 ∷ pos 0 ∷ []; count = 3 }
 
 -- the station record that bytes are read as
 unfoldable pub record_in : List ℕ → Station
-record_in bytes = station_in bytes 0 if eqb (length bytes) 9 else no_record
+record_in bytes = station_in bytes 0 if eqb (length bytes) record_length else no_record
 
 -- record i of the row that bytes are read as: one that fits no bench where the last is not whole
 unfoldable pub row_record : List ℕ → ℕ → Station
-row_record bytes i = station_in bytes (9 * i) if leb (9 * i + 9) (length bytes) else no_record
+row_record bytes i = station_in bytes (record_length * i) if leb (record_length * i + record_length) (length bytes) else no_record
 
 -- how many records bytes are read as, the last of them whole or not
 unfoldable pub record_count : List ℕ → ℕ
-record_count bytes = (length bytes + 8) / 9
+record_count bytes = (length bytes + 8) / record_length
 
 -- the row of records that bytes are read as
 unfoldable pub row_in : List ℕ → List Station

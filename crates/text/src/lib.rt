@@ -58,25 +58,14 @@ fn room_after<F: Text<T>, T: Copy>(room: usize, items: &[T]) -> usize
     left
 }
 
-// Stores bytes, and tells the place after them.
-#[tactic(auto, using(writer::specs::Laws::Put::put_part))]
-fn put_bytes(bytes: &[u8], out: &mut [u8], at: usize) -> usize
-    requires { at + length bytes.now ≤ length out.old }
-    ensures { Put bytes.now at out.old out.new result }
-{
-    let end = at + bytes.len();
-    out[at..end].copy_from_slice(bytes);
-    end
-}
-
-#[tactic(auto, using(crate::specs::Laws::Decimal::digits_decimal))]
+#[tactic(auto, using(crate::specs::Laws::Decimal::digits_decimal, writer::specs::Laws::Put::put_done))]
 fn put_decimal(n: u64, out: &mut [u8], at: usize) -> usize
     requires { at + length (decimal n) ≤ length out.old }
     ensures { Put (decimal n) at out.old out.new result }
 {
     let mut text = [0u8; 20];
     let count = io::decimal(n, &mut text);
-    put_bytes(&text[..count], out, at)
+    writer::put(&text[..count], out, at)
 }
 
 // How many digits a number has in decimal.
@@ -183,7 +172,7 @@ pub fn header_line(out: &mut [u8]) -> Result<usize, Refusal>
     if out.len() < line.len() {
         return Err(Refusal::Room);
     }
-    Ok(put_bytes(&line, out, 0))
+    Ok(writer::put(&line, out, 0))
 }
 
 // A line that begins with `first` and goes on with the items.
@@ -195,7 +184,8 @@ fn line<F: Text<T>, T: Copy>(first: &[u8], items: &[T], out: &mut [u8]) -> Resul
     if room_after::<F, T>(room, items) == 0 {
         return Err(Refusal::Room);
     }
-    let mut end = put_bytes(first, out, 0);
+    let behind = writer::put(first, out, 0);
+    let mut end = behind;
     for item in items {
         end = F::put(*item, out, end);
     }

@@ -14,7 +14,8 @@ use Rattle.cycle.specs.Cycle.{state_after}
 use Rattle.cycle.specs.Run.{run_answer}
 use Rattle.engine.specs.Answer.{number_of_step, step_answer, StepDone}
 use Rattle.cycle.specs.Laws.Run.{run_still}
-use Rattle.layout.specs.Bytes.{state_bytes, state_length}
+use Rattle.layout.specs.Places.{state_length}
+use Rattle.layout.specs.Bytes.{state_bytes}
 use Rattle.layout.specs.Laws.Bytes.{state_long}
 use Rattle.layout.specs.Typed.{Typed}
 use Rattle.layout.proofs.Back.{state_back}

@@ -18,7 +18,8 @@ use Rattle.cycle.specs.Laws.Run.{run-made, ran_kept}
 use Rattle.cycle.specs.Laws.Ranged.{Ranged, ranged-fresh, ranged-next}
 use Rattle.engine.specs.Answer.{StepTold, stepped, step_number, number_of_step, step_answer}
 use Rattle.engine.specs.Laws.Answer.{number_ok}
-use Rattle.layout.specs.Bytes.{state_bytes, state_length, state_in}
+use Rattle.layout.specs.Places.{state_length}
+use Rattle.layout.specs.Bytes.{state_bytes, state_in}
 use Rattle.layout.proofs.Back.{state_back}
 use Rattle.capi.specs.Calls.{FreshCall}
 use Rattle.token_rule.specs.Calls.{returned, Done, Chain, cycles_of}

@@ -1,9 +1,10 @@
 -- What standard input holds: "the image, then 8-byte words, low byte first."
-use Rattle.std.specs.Prelude.{Bool, not, List, ℕ, ◌+◌, ◌*◌, ◌-◌, ◌/◌, ◌%◌, ◌^◌, eqb, ltb, length, take}
+use Rattle.std.specs.Prelude.{Bool, not, List, ℕ, ◌+◌, ◌*◌, ◌-◌, ◌/◌, ◌%◌, eqb, ltb, length, take}
 use Rattle.laws.specs.Below.{any_below}
 use Rattle.laws.specs.Choice.{◌if◌else◌, ◌then◌}
 use Rattle.laws.specs.Table.{table}
-use Rattle.image.specs.Image.{nodes, four_bytes, length_due}
+use Rattle.numbers.specs.Numbers.{eight_bytes}
+use Rattle.image.specs.Image.{nodes, length_due}
 use Rattle.verdict.specs.Judge.{sizes_number, contents_number}
 use Rattle.cycle.specs.Word.{sets_above}
 
@@ -13,7 +14,7 @@ image_of input = take (length_due input) input
 
 -- word k of an input, which has its words behind the image
 unfoldable pub word_at : List ℕ → ℕ → ℕ
-word_at input k = let at = length_due input + 8 * k in four_bytes input at + 2 ^ 32 * four_bytes input (at + 4)
+word_at input k = eight_bytes input (length_due input + 8 * k)
 
 -- how many whole words follow the image of an input
 unfoldable pub word_count : List ℕ → ℕ

@@ -26,8 +26,9 @@ use Rattle.cycle.specs.Word.{stalled}
 use Rattle.worked_examples.specs.Engine.{stationed, stalls}
 use Rattle.bench.specs.Bench.{bench_number}
 use Rattle.bench.specs.Bench as bench
-use Rattle.layout.specs.Bytes.{number_bytes, bits_of, token_bytes, node_bytes, station_bytes, queue_bytes, state_bytes}
-use Rattle.layout.specs.Bytes.{token_in, station_in, places_in, no_state, state_in, no_record, record_in, row_record, record_count, row_in}
+use Rattle.numbers.specs.Numbers.{number_bytes, bits_of, signed_bytes, signed_in}
+use Rattle.layout.specs.Bytes.{node_bytes, station_bytes, queue_bytes, state_bytes}
+use Rattle.layout.specs.Bytes.{station_in, places_in, no_state, state_in, no_record, record_in, row_record, record_count, row_in}
 
 -- n of the bytes, from a place on
 abbrev part : ℕ → ℕ → List ℕ → List ℕ
@@ -38,16 +39,16 @@ abbrev four : ℕ → List ℕ
 four n = n ∷ 0 ∷ 0 ∷ 0 ∷ []
 
 record Tokens : Type 0 where
-  one : token_bytes (pos 1) ≡ 1 ∷ 0 ∷ 0 ∷ 0 ∷ []
-  minus_one : token_bytes (negsuc 0) ≡ 255 ∷ 255 ∷ 255 ∷ 255 ∷ []
-  greatest : token_bytes (pos 2147483647) ≡ 255 ∷ 255 ∷ 255 ∷ 127 ∷ []
-  least : token_bytes (negsuc 2147483647) ≡ 0 ∷ 0 ∷ 0 ∷ 128 ∷ []
-  read_greatest : token_in (9 ∷ 255 ∷ 255 ∷ 255 ∷ 127 ∷ []) 1 ≡ pos 2147483647
-  read_least : token_in (9 ∷ 0 ∷ 0 ∷ 0 ∷ 128 ∷ []) 1 ≡ negsuc 2147483647
+  one : signed_bytes (pos 1) ≡ 1 ∷ 0 ∷ 0 ∷ 0 ∷ []
+  minus_one : signed_bytes (negsuc 0) ≡ 255 ∷ 255 ∷ 255 ∷ 255 ∷ []
+  greatest : signed_bytes (pos 2147483647) ≡ 255 ∷ 255 ∷ 255 ∷ 127 ∷ []
+  least : signed_bytes (negsuc 2147483647) ≡ 0 ∷ 0 ∷ 0 ∷ 128 ∷ []
+  read_greatest : signed_in (9 ∷ 255 ∷ 255 ∷ 255 ∷ 127 ∷ []) 1 ≡ pos 2147483647
+  read_least : signed_in (9 ∷ 0 ∷ 0 ∷ 0 ∷ 128 ∷ []) 1 ≡ negsuc 2147483647
   a_record : station_bytes (record { tokens = pos 258 ∷ negsuc 1 ∷ []; count = 2 }) ≡ 2 ∷ 1 ∷ 0 ∷ 0 ∷ 254 ∷ 255 ∷ 255 ∷ 255 ∷ 2 ∷ []
 
 tokens : Tokens
-unfolding token_bytes number_bytes bits_of token_in signed station_bytes table flat_map
+unfolding signed_bytes number_bytes bits_of signed station_bytes table flat_map
 tokens =
     record {
       one = refl;
@@ -80,7 +81,7 @@ unfolding all_below any_below pick_below signed padded table flat_map
     waiting queue_of full blocked arriving input stop_below stop_above channel_reading channel_after
     node_at pending_at station_at queue_at channel_in state_of fresh_state
     stalled input_at blocked_at all_ready any_blocked fires node_after channel_after_at state_after after
-    number_bytes bits_of token_bytes node_bytes station_bytes queue_bytes state_bytes
+    number_bytes bits_of signed_bytes node_bytes station_bytes queue_bytes state_bytes
 figure4_bytes = record { nodes-first = refl; pending-next = refl; queues_last = refl }
 
 -- the state of a netlist with stations after twelve words, as bytes
@@ -104,7 +105,7 @@ unfolding all_below any_below pick_below signed padded table flat_map
     waiting queue_of full blocked arriving input stop_below stop_above channel_reading channel_after
     node_at pending_at station_at queue_at channel_in state_of fresh_state
     stalled input_at blocked_at all_ready any_blocked fires node_after channel_after_at state_after after
-    number_bytes bits_of token_bytes node_bytes station_bytes queue_bytes state_bytes
+    number_bytes bits_of signed_bytes node_bytes station_bytes queue_bytes state_bytes
 stationed_bytes = record { nodes-first = refl; full-station = refl; three_stations = refl; a_queue = refl }
 
 -- bytes of another length than a state's: none, one too few, and one more, which is not looked at
@@ -121,5 +122,5 @@ record Lengths : Type 0 where
 lengths : Lengths
 unfolding all_below any_below sum_below zero_from nodes channels kind parameter wire from to port feeds depths stations depth inputs
     judge sizes_number contents_number depth_number bad_kind bad_wire bad_port fed_twice not_fed bad_stations bad_depth fits cycles_fit state_number bench_number bench.fits
-    table flat_map signed token_in station_in places_in no_state state_in no_record record_in row_record record_count row_in
+    table flat_map signed station_in places_in no_state state_in no_record record_in row_record record_count row_in
 lengths = record { none = refl; too_few = refl; one_more = refl; rows = refl; records = refl }

@@ -27,7 +27,8 @@ use Rattle.writer.specs.Write.{written_answer, written_over, WriteDone}
 use Rattle.writer.specs.Laws.Write.{write_done}
 use Rattle.tracer.specs.Laws.Done.{line_made}
 use Rattle.tracer.specs.Done.{LineTold, line_answer, LineDone}
-use Rattle.layout.specs.Bytes.{state_bytes, state_length, state_in, no_state}
+use Rattle.layout.specs.Places.{state_length}
+use Rattle.layout.specs.Bytes.{state_bytes, state_in, no_state}
 use Rattle.layout.specs.Laws.Bytes.{state_long}
 use Rattle.capi.specs.Calls.{state_over, fresh_number, fresh_over, state_left, FreshCall, StepCall, RunCall, LineCall}
 

@@ -1,12 +1,9 @@
 -- Laws of bytes: what the writers and the readers do part by part. Assumes nothing.
-use Rattle.std.specs.Prelude.{◌≡◌, refl, ℕ, ◌+◌, ◌*◌, ◌^◌, ◌<◌, ◌≤◌, ℤ, pos, negsuc, length, get_or, drop}
+use Rattle.std.specs.Prelude.{◌≡◌, refl, ℕ, ◌+◌, ◌*◌, ◌≤◌, ℤ, pos, length, get_or, drop}
 use Rattle.std.proofs.Common.{sym, ◌∙◌, drop_of_length-le}
 use mathlib.Core.List.{List, [], ◌∷◌, ◌++◌, append-nil, flat_map}
 use native.Mathlib.Omega.{arith}
 use Rattle.std.proofs.Math.ListN.{length-append}
-use Rattle.std.specs.Int.Signed.{mag}
-use Rattle.std.specs.Int.{w32}
-use Rattle.std.proofs.Common.{of_z}
 use Rattle.laws.specs.Table.{table}
 use Rattle.laws.specs.Laws.Table.{length-table, table_own}
 use Rattle.writer.specs.Put.{Put}
@@ -18,19 +15,10 @@ use Rattle.shell.specs.declared.Queue.{Queue}
 use Rattle.state.specs.declared.Node.{Node}
 use Rattle.state.specs.declared.State.{State}
 use Rattle.state.specs.State.{no_node, no_queue, node_at, pending_at, queue_at}
-use Rattle.layout.specs.Bytes.{each, number_bytes, bits_of, token_bytes, node_bytes, station_bytes, queue_bytes, state_bytes, state_length}
-
--- ---- the bits of a token
-pub bits_few : (z : ℤ) → mag z < 2 ^ 31 → bits_of z < 2 ^ 32
-unfolding bits_of
-bits_few (pos n) h = let l : n < 2 ^ 31 = h in omega arith
-bits_few (negsuc n) h = omega arith
-
--- the machine's bits of a token are the definition's
-pub bits_same : (z : ℤ) → of_z w32 z ≡ bits_of z
-unfolding bits_of
-bits_same (pos n) = refl
-bits_same (negsuc n) = refl
+use Rattle.numbers.specs.Numbers.{number_bytes, signed_bytes}
+use Rattle.numbers.specs.Laws.Numbers.{number_long, signed_long}
+use Rattle.layout.specs.Places.{node_length, record_length, queue_length, nodes_place, stations_place, state_length}
+use Rattle.layout.specs.Bytes.{each, node_bytes, station_bytes, queue_bytes, state_bytes}
 
 -- ---- how many bytes each takes
 module _ {A : Type 0} (f : A → List ℕ) (w : ℕ) (long : (x : A) → length (f x) ≡ w) where
@@ -59,35 +47,27 @@ pub each_own :
 each_own f l d e p = rw (← e, flat_own f l d) p
 
 -- the tokens of a station or a queue are stored one by one
-pub tokens_own : (tokens : List ℤ) {n : ℕ} → length tokens ≡ n → flat_map token_bytes tokens ≡ each token_bytes (λ i. get_or tokens i (pos 0)) n
-tokens_own tokens e = rw (← e) (sym (flat_own token_bytes tokens (pos 0)))
+pub tokens_own : (tokens : List ℤ) {n : ℕ} → length tokens ≡ n → flat_map signed_bytes tokens ≡ each signed_bytes (λ i. get_or tokens i (pos 0)) n
+tokens_own tokens e = rw (← e) (sym (flat_own signed_bytes tokens (pos 0)))
 
-pub number_long : (n : ℕ) → length (number_bytes n) ≡ 4
-unfolding number_bytes
-number_long n = refl
-
-pub end_number : (n : ℕ) {i : ℕ} {old new : List ℕ} → Put (number_bytes n) 0 old new i → (i ≡ 4) × (length new ≡ length old)
+pub end_number : (n : ℕ) {i : ℕ} {old new : List ℕ} → Put (number_bytes n) 0 old new i → (i ≡ nodes_place) × (length new ≡ length old)
 end_number n p = (omega (arith, p.next, number_long n), put_long p)
 
-pub token_long : (z : ℤ) → length (token_bytes z) ≡ 4
-unfolding token_bytes
-token_long z = number_long (bits_of z)
-
-pub node_long : (n : Node) → length (node_bytes n) ≡ 8
+pub node_long : (n : Node) → length (node_bytes n) ≡ node_length
 unfolding node_bytes
-node_long n = length-append (token_bytes n.value) (number_bytes n.firings) ∙ rw (token_long n.value, number_long n.firings)
+node_long n = length-append (signed_bytes n.value) (number_bytes n.firings) ∙ rw (signed_long n.value, number_long n.firings)
 
-pub station_long : (s : Station) → length (station_bytes s) ≡ 9
+pub station_long : (s : Station) → length (station_bytes s) ≡ record_length
 unfolding station_bytes
 station_long s =
-    length-append (each token_bytes (λ i. get_or s.tokens i (pos 0)) 2) (s.count ∷ [])
-    ∙ rw (each_long token_bytes 4 token_long (λ i. get_or s.tokens i (pos 0)) 2)
+    length-append (each signed_bytes (λ i. get_or s.tokens i (pos 0)) 2) (s.count ∷ [])
+    ∙ rw (each_long signed_bytes 4 signed_long (λ i. get_or s.tokens i (pos 0)) 2)
 
-pub queue_long : (q : Queue) → length (queue_bytes q) ≡ 33
+pub queue_long : (q : Queue) → length (queue_bytes q) ≡ queue_length
 unfolding queue_bytes
 queue_long q =
-    length-append (each token_bytes (λ i. get_or q.tokens i (pos 0)) 8) (q.count ∷ [])
-    ∙ rw (each_long token_bytes 4 token_long (λ i. get_or q.tokens i (pos 0)) 8)
+    length-append (each signed_bytes (λ i. get_or q.tokens i (pos 0)) 8) (q.count ∷ [])
+    ∙ rw (each_long signed_bytes 4 signed_long (λ i. get_or q.tokens i (pos 0)) 8)
 
 -- a text that is stored over as many bytes, or fewer, is all of them
 pub all_stored : (bytes text : List ℕ) {left : List ℕ} (n : ℕ) → length bytes ≤ n → left ≡ text ++ drop n bytes → left ≡ text
@@ -100,20 +80,20 @@ state_long s =
     simp (
       length-append,
       number_long,
-      each_long node_bytes 8 node_long,
+      each_long node_bytes node_length node_long,
       length-table,
-      each_long station_bytes 9 station_long,
-      each_long queue_bytes 33 queue_long,
+      each_long station_bytes record_length station_long,
+      each_long queue_bytes queue_length queue_long,
     ) refl
 
 -- where a state's pending bytes end
 pub end_pending :
     (s : State) {i j k : ℕ} {a b c d : List ℕ} → length s.nodes ≡ 64 → length s.pending ≡ 96
     → Put (number_bytes s.cycles) 0 a b i → Put (flat_map node_bytes s.nodes) i b c j → Put s.pending j c d k
-    → (k ≡ 612) × (length d ≡ length a)
+    → (k ≡ stations_place) × (length d ≡ length a)
 end_pending s nodes pending p q r =
     let first = end_number s.cycles p in
-    let second = end_all node_bytes 8 node_long s.nodes nodes q in
+    let second = end_all node_bytes node_length node_long s.nodes nodes q in
     (omega (arith, first, second, r.next, pending), omega (arith, first, second, put_long r))
 
 pub state-put :

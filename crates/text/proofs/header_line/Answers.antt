@@ -2,6 +2,7 @@
 use mathlib.Core.Path.{◌≡◌, refl}
 use native.Mathlib.Omega.{arith}
 use lib.ListN.{length}
+use Rattle.writer.specs.Laws.Put.{put_done}
 use Rattle.writer.specs.Laws.Write.{write_none, write_made}
 use Rattle.text.specs.Ascii.{ascii}
 use Rattle.text.specs.Trace.{header}
@@ -15,4 +16,4 @@ pub returns-then-out-lt13 : goal.returns-then-out-lt13
 returns-then-out-lt13 c = write_none header c.args.out.now (omega (arith, long))
 
 pub returns : goal.returns
-returns c = write_made header c.args.out.now _ _ (omega (arith, long)) (rw c.header-line.ensures at c.put_bytes.ensures)
+returns c = write_made header c.args.out.now _ _ (omega (arith, long)) (put_done (rw c.header-line.ensures at c.put.ensures) (omega (arith, long, c.if-out-lt13.false)))

@@ -1,8 +1,8 @@
 -- Laws of an input: how long its image is, where its words lie, and what its number says. Assumes nothing.
-use Rattle.std.specs.Prelude.{false, List, ◌≡◌, refl, ◌^◌, eqb, get_or, take, drop}
+use Rattle.std.specs.Prelude.{false, List, ◌≡◌, refl, eqb, get_or, take, drop}
 use Rattle.std.specs.Int.{from_le_bytes, w64}
 use Rattle.std.specs.Simd.{first_chunks}
-use Rattle.std.proofs.Common.{⊎_elim, sym, ap, ◌∙◌, not-suc-le-zero, mul-zero, mul-suc, eqb-true, ltb-false, drop-drop, get_or-drop}
+use Rattle.std.proofs.Common.{⊎_elim, sym, ap, ◌∙◌, not-suc-le-zero, mul-zero, mul-suc, eqb-true, ltb-false, drop-drop}
 use Prim.Native.Nat.{ℕ, zero, suc, ◌+◌, ◌*◌, ◌-◌, ◌/◌, ◌%◌, ◌<◌, ◌≤◌, min}
 use native.Mathlib.Omega.{arith}
 use Rattle.std.proofs.lemmas.Bool.{not-false}
@@ -14,7 +14,8 @@ use Rattle.laws.specs.Laws.Cases.{lt-or-ge}
 use Rattle.laws.specs.Laws.Choice.{past, past_number}
 use Rattle.laws.specs.Laws.Lists.{take_min}
 use Rattle.laws.specs.Laws.Table.{length-table, table_at}
-use Rattle.image.specs.Image.{nodes, channels, four_bytes, length_due}
+use Rattle.numbers.specs.Laws.Numbers.{eight_same}
+use Rattle.image.specs.Image.{nodes, channels, length_due}
 use Rattle.verdict.specs.Judge.{sizes_number, contents_number, judge}
 use Rattle.verdict.specs.Laws.Sized.{sized, judge_sized}
 use Rattle.cycle.specs.Word.{sets_above}
@@ -52,34 +53,6 @@ length_chunks : {A : Type 0} (n k : ℕ) (xs : List A) → length (first_chunks 
 length_chunks n zero xs = refl
 length_chunks n (suc k) xs = ap suc (length_chunks n k (drop n xs))
 
--- byte i of the eight bytes from a place on
-chunk_byte : (input : List ℕ) (at i : ℕ) → i < 8 → get_or (take 8 (drop at input)) i 0 ≡ get_or input (at + i) 0
-chunk_byte input at i h = get_or-take 8 (drop at input) i 0 h ∙ get_or-drop at input i 0
-
--- the eight bytes from a place on as one number
-chunk_word : (input : List ℕ) (at : ℕ) → from_le_bytes w64 (take 8 (drop at input)) ≡ four_bytes input at + 2 ^ 32 * four_bytes input (at + 4)
-chunk_word input at =
-    let b = chunk_byte input at in
-    let e5 : at + 4 + 1 ≡ at + 5 = omega arith in
-    let e6 : at + 4 + 2 ≡ at + 6 = omega arith in
-    let e7 : at + 4 + 3 ≡ at + 7 = omega arith in
-    let e0 : at + 0 ≡ at = omega arith in
-    rw (
-      b 0 (omega arith),
-      b 1 (omega arith),
-      b 2 (omega arith),
-      b 3 (omega arith),
-      b 4 (omega arith),
-      b 5 (omega arith),
-      b 6 (omega arith),
-      b 7 (omega arith),
-      e0,
-      e5,
-      e6,
-      e7,
-    )
-    (omega arith)
-
 module _ (input : List ℕ) where
   -- what follows the image, counted in whole words
   pub tail_words : (length input - length (image_of input)) / 8 ≡ word_count input
@@ -107,7 +80,7 @@ module _ (input : List ℕ) where
       ⊎_elim
       (λ (h : k < word_count input).
       let due : length (image_of input) ≡ length_due input = omega (arith, image_length input, h) in
-      rw (chunk_at 8 (word_count input) (drop (length (image_of input)) input) k (replicate 8 0) h, drop-drop, due, word_there k h) (chunk_word input (length_due input + 8 * k)))
+      rw (chunk_at 8 (word_count input) (drop (length (image_of input)) input) k (replicate 8 0) h, drop-drop, due, word_there k h) (eight_same input (length_due input + 8 * k)))
       (λ (h : word_count input ≤ k).
       let none = get_or-eq_default (first_chunks 8 (word_count input) (drop (length (image_of input)) input)) (replicate 8 0) {n = k} (rw length_chunks h) in
       rw (word_past k h, none))

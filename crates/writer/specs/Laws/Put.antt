@@ -5,8 +5,9 @@ use Rattle.std.proofs.lemmas.List.Edits.{sets, sets-eq}
 use Rattle.std.proofs.Math.Seq.{length-sets, take-length, paste}
 use borrow.Rule.Slice.PartMut.{put_mid}
 use Rattle.std.proofs.lemmas.Slice.{put_mid-paste}
+use Rattle.std.proofs.lemmas.Bool.{le-leb}
 use native.Mathlib.Omega.{arith}
-use Rattle.writer.specs.Put.{Put}
+use Rattle.writer.specs.Put.{Put, PutDone}
 
 -- two texts stored one after another are one text stored
 sets_sets : {A : Type 0} (xs ys l : List A) (i : ℕ) → sets (sets l i xs) (i + length xs) ys ≡ sets l i (xs ++ ys)
@@ -48,6 +49,12 @@ put_part text {old} {now} at h e =
       bytes = put_mid-paste at (at + length text - at) old now text (length text) e (sym k) refl ∙ part ∙ rw (sets-eq text old at h);
       next = refl;
     }
+
+-- a text that has room is stored
+pub put_done : {text old new : List ℕ} {at end : ℕ} → PutDone text at old new end → at + length text ≤ length old → Put text at old new end
+put_done {text} {old} {new} {at} d h =
+    let e = le-leb (at + length text) (length old) h in
+    record { bytes = d.bytes ∙ rw e; next = d.next ∙ rw e }
 
 -- the laws that store a text part by part
 pub ruleset put_steps = (put_one, put_two, put-after, put_long)

@@ -1,0 +1,2 @@
+-- What others use in place of the definitions' texts.
+pub mod Numbers
