@@ -1,6 +1,7 @@
 // Channel Bench for C and Rust: the functions of the static library, on numbers, bytes and arrays of
-// numbers. `include/channel_bench.h` declares them and has the layout of a state's bytes; crate `capi_c`
-// exports them.
+// numbers. `include/channel_bench.h` declares them; crate `capi_c` exports them. What the bytes of a state
+// are is told in `layout`: where each part stands (specs/Places.antt), how it is written and what bytes
+// are read as (specs/Bytes.antt). The header has the same for C.
 //
 // Each but the edition answers 0, or the number that refuses the call. What it answers beside that it
 // stores through its last references.

@@ -1,8 +1,7 @@
-// A state and station records from bytes, at the places that the C interface gives them
-// (`include/channel_bench.h`). A reader is given a place with all its bytes behind it. One that is given
-// a chunk of its own size would be no plainer: the definitions name places (`layout`'s
-// specs/Bytes.antt), and nodes, stations and queues would each need a law that takes a chunk to its
-// place.
+// A state and station records from bytes, at the places that `layout` names. A reader is given a place
+// with all its bytes behind it. One that is given a chunk of its own size would be no plainer: the
+// definitions name places (`layout`'s specs/Bytes.antt), and nodes, stations and queues would each need
+// a law that takes a chunk to its place.
 #![tactic(auto)]
 
 ghost use Rattle.std.specs.Prelude.{[], ◌≡◌, ◌+◌, ◌*◌, ◌≤◌, length, get_or, min};

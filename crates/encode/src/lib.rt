@@ -47,8 +47,8 @@ fn put_all<F: Bytes<T>, T: Copy>(items: &[T], out: &mut [u8], at: usize) -> usiz
     end
 }
 
-// Stores bytes, given room for them, and tells the place after them. `writer::put` asks for no room, and
-// tests for it instead: at every number a state has, so that a step on bytes took a tenth longer.
+// Stores bytes, given room for them, and tells the place after them. `writer::put` asks for no room and
+// tests for it, here at each of a state's numbers: a step on bytes took a tenth longer.
 #[tactic(auto, using(writer::specs::Laws::Put::put_part))]
 fn put_bytes(bytes: &[u8], out: &mut [u8], at: usize) -> usize
     requires { at + length bytes.now ≤ length out.old }

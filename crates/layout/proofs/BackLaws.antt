@@ -218,4 +218,6 @@ module _ (s : State) (typed : Typed s) (rest : List ℕ) where
 
   pub places_back : places_in (state_bytes s ++ rest) ≡ s
   unfolding places_in
-  places_back = ap places_in whole ∙ whole_state s cycles_back nodes_back pending_back stations_back queues_back
+  places_back =
+      let parts : places_in bytes ≡ s = whole_state s cycles_back nodes_back pending_back stations_back queues_back in
+      ap places_in whole ∙ parts

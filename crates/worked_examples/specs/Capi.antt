@@ -1,7 +1,7 @@
 -- The bytes that C is handed, computed: tokens at the ends of their range; figure 4's state after five cycles, and one with stations and tokens below
 -- 0 after twelve; bytes of other lengths; rows of whole records and others.
 use mathlib.Core.List.{List, [], ◌∷◌, ◌++◌, map, flat_map}
-use Rattle.std.specs.Prelude.{◌≡◌, refl, ℕ, pos, negsuc, take, drop, replicate}
+use Rattle.std.specs.Prelude.{◌≡◌, refl, ℕ, ◌+◌, ◌*◌, pos, negsuc, take, drop, replicate}
 use Rattle.laws.specs.Below.{all_below, any_below, sum_below, pick_below}
 use Rattle.laws.specs.Lists.{padded, zero_from}
 use Rattle.laws.specs.Signed.{signed}
@@ -27,6 +27,7 @@ use Rattle.worked_examples.specs.Engine.{stationed, stalls}
 use Rattle.bench.specs.Bench.{bench_number}
 use Rattle.bench.specs.Bench as bench
 use Rattle.numbers.specs.Numbers.{number_bytes, bits_of, signed_bytes, signed_in}
+use Rattle.layout.specs.Places.{record_length, queue_length, nodes_place, pending_place, stations_place, queues_place, state_length}
 use Rattle.layout.specs.Bytes.{node_bytes, station_bytes, queue_bytes, state_bytes}
 use Rattle.layout.specs.Bytes.{station_in, places_in, no_state, state_in, no_record, record_in, row_record, record_count, row_in}
 
@@ -60,6 +61,10 @@ tokens =
       a_record = refl;
     }
 
+-- where the parts of a state stand, and how many bytes it has: the header's numbers
+places : nodes_place ∷ pending_place ∷ stations_place ∷ queues_place ∷ state_length ∷ [] ≡ 4 ∷ 516 ∷ 612 ∷ 7524 ∷ 10692 ∷ []
+places = refl
+
 -- figure 4's state after the words 1 0 0 16 0, as bytes
 abbrev five : List ℕ
 five = state_bytes (after figure4 (fresh_state figure4) (1 ∷ 0 ∷ 0 ∷ 16 ∷ 0 ∷ []))
@@ -67,12 +72,12 @@ five = state_bytes (after figure4 (fresh_state figure4) (1 ∷ 0 ∷ 0 ∷ 16 �
 record Figure4 : Type 0 where
   -- cycle count 5; values 14, 105, 114, 114 and 112 and firings 4, 5, 3, 4 and 3; nothing for the 59 nodes that are not there
   nodes-first :
-      take 516 five ≡
+      take pending_place five ≡
       four 5 ++ four 14 ++ four 4 ++ four 105 ++ four 5 ++ four 114 ++ four 3 ++ four 114 ++ four 4 ++ four 112 ++ four 3 ++ replicate 472 0
   -- the sum's token has passed on channel 2, and is pending on channel 3
-  pending-next : part 516 96 five ≡ 1 ∷ 1 ∷ 0 ∷ 1 ∷ replicate 92 0
+  pending-next : part pending_place 96 five ≡ 1 ∷ 1 ∷ 0 ∷ 1 ∷ replicate 92 0
   -- the queue of channel 0 holds 13, that of channel 1 holds 103 and 104, and the others nothing
-  queues_last : part 7524 132 five ≡ four 13 ++ replicate 28 0 ++ (1 ∷ four 103 ++ four 104 ++ replicate 24 0 ++ (2 ∷ replicate 66 0))
+  queues_last : part queues_place (4 * queue_length) five ≡ four 13 ++ replicate 28 0 ++ (1 ∷ four 103 ++ four 104 ++ replicate 24 0 ++ (2 ∷ replicate 66 0))
 
 figure4_bytes : Figure4
 unfolding all_below any_below pick_below signed padded table flat_map
@@ -92,11 +97,11 @@ record Stationed : Type 0 where
   -- cycle count 12; the count shows 15 and has fired 5 times, the sum shows -309 and has fired 4 times
   nodes-first : take 20 twelve ≡ four 12 ++ four 15 ++ four 5 ++ (203 ∷ 254 ∷ 255 ∷ 255 ∷ four 4)
   -- the station of channel 0 holds 14 and 15
-  full-station : part 612 9 twelve ≡ four 14 ++ four 15 ++ (2 ∷ [])
+  full-station : part stations_place record_length twelve ≡ four 14 ++ four 15 ++ (2 ∷ [])
   -- of the three stations of channel 4 the second holds 15 and the third 14
-  three_stations : part 900 27 twelve ≡ replicate 9 0 ++ four 15 ++ four 0 ++ (1 ∷ four 14 ++ four 0 ++ (1 ∷ []))
+  three_stations : part (stations_place + 32 * record_length) (3 * record_length) twelve ≡ replicate 9 0 ++ four 15 ++ four 0 ++ (1 ∷ four 14 ++ four 0 ++ (1 ∷ []))
   -- the queue of channel 3 holds -201 and 99
-  a_queue : part 7623 33 twelve ≡ (55 ∷ 255 ∷ 255 ∷ 255 ∷ four 99) ++ replicate 24 0 ++ (2 ∷ [])
+  a_queue : part (queues_place + 3 * queue_length) queue_length twelve ≡ (55 ∷ 255 ∷ 255 ∷ 255 ∷ four 99) ++ replicate 24 0 ++ (2 ∷ [])
 
 stationed_bytes : Stationed
 unfolding all_below any_below pick_below signed padded table flat_map
