@@ -75,6 +75,15 @@ taken_few n d (word ∷ words) h = go (eqb d 1000000) (sets_above n word) refl (
         let k : suc d ≤ 1000000 = omega (arith, n) in
         (omega (arith, r k), omega (arith, r k))
 
+-- a run takes all of its words where none sets a bit at or above n, and as many cycles are left
+taken_own : (n d : ℕ) (words : List ℕ) → Own n words → d + length words ≤ 1000000 → taken_from n d words ≡ taken (length words) 0
+unfolding taken_from take_more
+taken_own n d [] own few = refl
+taken_own n d (word ∷ words) own few =
+    let good : ℕ → Type 0 = λ w. sets_above n w ≡ false in
+    rw (ne_eqb d 1000000 (λ q. omega (arith, q)), All-head good word words own)
+    (ap take_more (taken_own n (suc d) words (All-tail good word words own) (omega arith)))
+
 -- a run is told by the words that it takes and the state after their cycles
 pub ran_taken :
     (img : List ℕ) (words : List ℕ) (s : State)
@@ -146,3 +155,15 @@ module _ (img : List ℕ) (s : State) (words : List ℕ) where
           let r = ran_taken img words s ∙ run-made (sym e) in
           let t : (taken_from (nodes img) s.cycles words).steps ≡ 0 = ap (λ (a : RunTold). a.steps) r ∙ z in
           sym (ap (λ (a : RunTold). a.state) r) ∙ rw t
+
+  -- a run whose words set no bit at or above N makes a cycle with each of them, up to the last cycle count
+  pub run_all :
+      state_number img s ≡ 0 → Own (nodes img) words → s.cycles + length words ≤ 1000000
+      → let r = run_answer img s words in (r.steps ≡ length words) × (r.number ≡ 0) × (r.state ≡ after img s words)
+  run_all e own few =
+      let r : run_answer img s words ≡ ran_by img s words (taken (length words) 0) =
+      sym (ran_taken img words s ∙ run-made (sym e)) ∙ ap (ran_by img s words) (taken_own (nodes img) s.cycles words own few) in (
+        ap (λ (a : RunTold). a.steps) r,
+        ap (λ (a : RunTold). a.number) r,
+        ap (λ (a : RunTold). a.state) r ∙ ap (after img s) take-length,
+      )

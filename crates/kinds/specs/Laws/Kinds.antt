@@ -30,17 +30,6 @@ larger-int_max a b = grind (arith, ints, clamps)
 none_past : (k : ℕ) → last_kind < k → get_or kinds k no_line ≡ no_line
 none_past k h = get_or-eq_default kinds no_line (omega (arith, h))
 
--- a number that is no kind has 0 in the table
-pub exact_none : (k : ℕ) → no_kind k ≡ true → (s a b c : ℤ) → exact k s a b c ≡ pos 0
-unfolding exact
-exact_none k e s a b c =
-    ⊎_elim
-    (λ (l : k < 1). let z : k ≡ 0 = omega (arith, l) in rw z)
-    (λ (l : 1 ≤ k).
-    let h : last_kind < k = ltb-true last_kind k (rw (le-ltb k 1 l) at e) in
-    ap (λ (x : Line). x.exact s a b c) (none_past k h))
-    (lt-or-ge k 1)
-
 -- no kind has more than three inputs
 few : all_below (λ k. leb (inputs k) 3) (suc last_kind) ≡ true
 unfolding all_below inputs
