@@ -3,7 +3,7 @@
 # default out/; rt makes the library if it is not there. Needs cc with pthreads, nm and size. Prints a line for each failure
 # and last 'N passed, M failed'; ends with 1 if any failed.
 #
-# The numbers, kinds and limits of the header are those of the wrapper, of the crates and of the library; the archive
+# The numbers, kinds, limits and places of the header are those of the wrapper, of the crates and of the library; the archive
 # exports the header's functions, has no variables, and needs two functions of the C library; and the programs of
 # tests/boundary: numbers, pointers, threads, and the stack that each call has.
 set -eu
