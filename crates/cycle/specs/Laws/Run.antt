@@ -5,6 +5,8 @@ use Rattle.std.proofs.Math.Path.{◌≡◌, refl, sym}
 use Rattle.std.proofs.Common.{ap, ◌∙◌, add-zero, zero-add, drop_of_length-le, drop-cons}
 use Prim.Native.Nat.{ℕ, suc, ◌+◌, ◌<◌, ◌≤◌}
 use Rattle.std.proofs.Math.Decide.{ℕ_discrete}
+use Rattle.std.proofs.lemmas.List.Elements.{All-head, All-tail}
+use Rattle.std.proofs.Math.Seq.{take-length}
 use Rattle.std.proofs.Math.Numerals.{add-one}
 use native.Mathlib.Omega.{arith}
 use borrow.Author.Tests.{eq-eqb, ne_eqb}
@@ -16,7 +18,7 @@ use Rattle.cycle.specs.Cycle.{state_after, after}
 use Rattle.cycle.specs.Laws.Cycle.{cycles-next}
 use Rattle.fitting.specs.Fits.{state_number}
 use Rattle.cycle.specs.Run.{RunTold, no_step, step_more, ran_from, run_answer}
-use Rattle.cycle.specs.Word.{sets_above}
+use Rattle.cycle.specs.Word.{sets_above, Own}
 use Rattle.cycle.specs.Loops.Taken.{TakenTold, taken, take_more, taken_from, taken_after, ran_by}
 
 -- ---- the run: the loop over its words, from the first on
@@ -165,5 +167,5 @@ module _ (img : List ℕ) (s : State) (words : List ℕ) where
       sym (ran_taken img words s ∙ run-made (sym e)) ∙ ap (ran_by img s words) (taken_own (nodes img) s.cycles words own few) in (
         ap (λ (a : RunTold). a.steps) r,
         ap (λ (a : RunTold). a.number) r,
-        ap (λ (a : RunTold). a.state) r ∙ ap (after img s) take-length,
+        ap (λ (a : RunTold). a.state) r ∙ ap (after img s) (take-length words),
       )
