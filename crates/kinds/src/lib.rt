@@ -5,6 +5,9 @@
 ghost use Rattle.std.specs.Prelude.{◌≡◌};
 ghost use Rattle.kinds.specs.Kinds.{no_kind, inputs};
 
+// The number of the last kind.
+pub const LAST: u8 = 9;
+
 // How many inputs each kind has, by its number. Place 0 is no kind.
 const INPUTS: &[u8] = &[0, 0, 1, 1, 1, 1, 2, 2, 2, 3];
 
@@ -12,7 +15,7 @@ const INPUTS: &[u8] = &[0, 0, 1, 1, 1, 1, 2, 2, 2, 3];
 pub fn no_kind(kind: u8) -> bool
     ensures { result ≡ no_kind kind }
 {
-    (kind < 1) | (INPUTS.len() <= kind as usize)
+    (kind < 1) | (LAST < kind)
 }
 
 // Returns how many inputs a node of a kind has, 0 for a number that is no kind: the judge asks before it

@@ -17,7 +17,7 @@ pub enum Refusal {
     Sizes = 2,
     // The length is not 2 + 5N + 5C.
     Length = 3,
-    // A kind is not 1 to 9.
+    // A node's kind is none of the table of kinds.
     Kind = 4,
     // A wire names a node that is not there.
     Wire = 5,

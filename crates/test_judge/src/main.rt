@@ -97,8 +97,8 @@ const CASES: &[Case] = &[
         ..LARGEST
     },
     Case {
-        label: "kind 10 at the last node",
-        changes: &[(KIND, 10)],
+        label: "the number past the last kind at the last node",
+        changes: &[(KIND, kinds::LAST + 1)],
         ..LARGEST
     },
     Case {
