@@ -1,9 +1,13 @@
 -- Images, computed: figure 4's is accepted, and so is a ring with stations; each number has an image.
 use Rattle.std.specs.Prelude.{List, [], ◌∷◌, ◌++◌, ◌≡◌, refl, ℕ, zero, suc, ◌+◌, ◌*◌, pos, negsuc, set, take, replicate}
 use Rattle.laws.specs.Below.{any_below, sum_below}
+use Rattle.laws.specs.Lists.{padded}
+use Rattle.laws.specs.Table.{table}
 use Rattle.laws.specs.Signed.{signed}
 use Rattle.kinds.specs.Kinds.{last_kind, inputs}
-use Rattle.image.specs.Image.{feeds, nodes, channels, kind, parameter, wire, from, to, port, depths, stations, depth}
+use Rattle.image.specs.declared.Wire.{Wire}
+use Rattle.image.specs.Image.{feeds, nodes, channels, kind, parameter, wire, from, to, port, depths, stations, depth, length_due}
+use Rattle.image.specs.Readers.{wire_at, no_wire, wires}
 use Rattle.image.specs.Loops.Ports.{ports_below}
 use Rattle.verdict.specs.Judge.{judge, sizes_number, contents_number, depth_number, bad_kind, bad_wire, bad_port, fed_twice, not_fed, bad_stations, bad_depth}
 
@@ -77,7 +81,7 @@ pub record Judged : Type 0 where
   pub at_10_deep : judge (set figure4 46 9) ≡ 10
   pub at_11 : judge (star 33 1) ≡ 11
   -- a lower number wins, wherever its cause stands: queue 0 on channel 0 and no kind at node 4
-  pub first-number : judge (set (set figure4 40 0) 6 10) ≡ 4
+  pub first-number : judge (set (set figure4 40 0) 6 (last_kind + 1)) ≡ 4
 
 judged : Judged
 unfolding judge sizes_number contents_number depth_number nodes channels kind wire from to port depths stations depth inputs feeds
@@ -123,3 +127,18 @@ ports :
     64 ∷ 64 ∷ 64 ∷ 64 ∷ 64 ∷ 64 ∷ 0 ∷ 1 ∷ 64 ∷ 2 ∷ 64 ∷ 64 ∷ 2 ∷ 64 ∷ 64 ∷ []
 unfolding nodes wire from to port ports_below
 ports = refl
+
+-- ---- how long an image is due to be, by its first two bytes alone, and what its channels are read as
+abbrev as_wire : ℕ → ℕ → ℕ → ℕ → ℕ → Wire
+as_wire from to port stations depth = record { from = from; to = to; port = port; stations = stations; depth = depth }
+
+due : (length_due figure4 ≡ 47) × (length_due (64 ∷ 96 ∷ []) ≡ 802) × (length_due [] ≡ 2)
+unfolding nodes channels
+due = (refl, refl, refl)
+
+channels_read :
+    (take 5 (wires figure4) ≡ as_wire 0 2 0 0 2 ∷ as_wire 1 2 1 0 2 ∷ as_wire 2 3 0 0 1 ∷ as_wire 2 4 0 0 1 ∷ no_wire ∷ []) ×
+    (take 3 (wires ring) ≡ as_wire 0 1 0 3 1 ∷ as_wire 1 0 0 8 8 ∷ no_wire ∷ []) ×
+    (take 1 (wires []) ≡ no_wire ∷ [])
+unfolding table padded nodes channels wire from to port depths stations depth wire_at wires
+channels_read = (refl, refl, refl)
