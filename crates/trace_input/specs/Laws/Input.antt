@@ -6,6 +6,7 @@ use Rattle.std.proofs.Common.{⊎_elim, sym, ap, ◌∙◌, not-suc-le-zero, mul
 use Prim.Native.Nat.{ℕ, zero, suc, ◌+◌, ◌*◌, ◌-◌, ◌/◌, ◌%◌, ◌<◌, ◌≤◌, min}
 use native.Mathlib.Omega.{arith}
 use Rattle.std.proofs.lemmas.Bool.{not-false}
+use Rattle.std.proofs.lemmas.List.Elements.{All-from_get_or}
 use Rattle.std.proofs.Math.ListN.{length, length-take, replicate, get_or-eq_default}
 use Rattle.std.proofs.Math.Seq.{get_or-take}
 use Rattle.laws.specs.Below.{any_below}
@@ -18,7 +19,7 @@ use Rattle.numbers.specs.Laws.Numbers.{eight_same}
 use Rattle.image.specs.Image.{nodes, channels, length_due}
 use Rattle.verdict.specs.Judge.{sizes_number, contents_number, judge}
 use Rattle.verdict.specs.Laws.Sized.{sized, judge_sized}
-use Rattle.cycle.specs.Word.{sets_above}
+use Rattle.cycle.specs.Word.{sets_above, Own}
 use Rattle.trace_input.specs.Input.{image_of, word_at, word_count, words_of, above_at, any_above, input_number}
 
 -- ---- the image
@@ -139,7 +140,8 @@ module _ (input : List ℕ) (e : input_number input (length input) ≡ 0) where
   words_few = rw (length-words input) none.no_14
 
   -- no word of an input whose number is 0 sets a bit at or above N
-  pub words_below : (k : ℕ) → k < length (words_of input) → sets_above (nodes (image_of input)) (get_or (words_of input) k 0) ≡ false
-  words_below k h =
+  pub words_own : Own (nodes (image_of input)) (words_of input)
+  words_own =
+      All-from_get_or (λ word. sets_above (nodes (image_of input)) word ≡ false) (words_of input) 0 λ k h.
       let l : k < word_count input = rw (length-words input) at h in
       rw ((image_sizes input).0, word_there input k l) (any_none (above_at input) k (word_count input) none.no_12 l)
