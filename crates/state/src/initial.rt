@@ -29,13 +29,17 @@ impl State {
         };
         let station = Station::empty();
         let queue = Queue::empty();
-        State {
+        let zeros = State {
             cycles: 0,
             nodes: [node; 64],
             pending: [0; 96],
             stations: [station; 768],
             queues: [queue; 96],
-        }
+        };
+        // The limits above are those of the type.
+        prove!(zeros.nodes.len() == State::NODES as usize);
+        prove!(zeros.queues.len() == State::CHANNELS as usize);
+        zeros
     }
 
     // Returns the fresh state, given an accepted image: each node shows its parameter, which is pending
