@@ -130,15 +130,11 @@ fn put_parts(state: State, out: &mut [u8]) -> usize
     requires { state_length ≤ length out.old }
     ensures { Put (state_bytes state) 0 out.old out.new result }
 {
-    let nodes = state.nodes;
-    let pending = state.pending;
-    let stations = state.stations;
-    let queues = state.queues;
     let first = Numbers::put(state.cycles, out, 0);
-    let second = put_all::<Nodes, Node>(&nodes, out, first);
-    let third = put_bytes(&pending, out, second);
-    let fourth = put_all::<Stations, Station>(&stations, out, third);
-    put_all::<Queues, Queue>(&queues, out, fourth)
+    let second = put_all::<Nodes, Node>(&state.nodes, out, first);
+    let third = put_bytes(&state.pending, out, second);
+    let fourth = put_all::<Stations, Station>(&state.stations, out, third);
+    put_all::<Queues, Queue>(&state.queues, out, fourth)
 }
 
 // Returns how many bytes a state takes, and leaves it at the start of `out`, given room for it. Refused
