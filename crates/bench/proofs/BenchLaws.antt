@@ -11,7 +11,7 @@ use Rattle.std.proofs.Math.ListN.{length, get_or}
 use Rattle.std.proofs.lemmas.List.{length-map}
 use Rattle.std.specs.Result.{is_ok}
 use Rattle.laws.specs.Below.{all_below}
-use Rattle.laws.specs.Laws.Cases.{lt-or-ge, or_left}
+use Rattle.laws.specs.Laws.Cases.{lt-or-ge, or_left, true_or_false}
 use Rattle.laws.specs.Choice.{◌if◌else◌}
 use Rattle.laws.specs.Lists.{holds, holds_two}
 use Rattle.relay.specs.declared.Station.{Station}
@@ -57,6 +57,15 @@ module _ (row : List Station) (link : Link) (stop : Bool) where
       kept : (t : Bool) → length (map station_of (row_after (token link) (map held row) stop) if t else row) ≡ length row
       kept true = rw (length-map, length-after, length-map)
       kept false = refl
+
+  -- a row that is refused stays
+  pub bench_stays : eqb (bench_answer row link stop).number 0 ≡ false → row ≡ bench_after row link stop
+  unfolding bench_answer bench_after reply
+  bench_stays e =
+      ⊎_elim
+      (λ (t : eqb (bench_number row) 0 ≡ true). absurd (true≢false (rw t at e)))
+      (λ (t : eqb (bench_number row) 0 ≡ false). rw t)
+      (true_or_false (eqb (bench_number row) 0))
 
   -- what a bench has done with a row of no records, or over 8
   bench_none : length row ≡ 0 → BenchDone row link stop (refusal 15) row
@@ -111,9 +120,24 @@ module _ (s : Station) (link : Link) (stop : Bool) where
   unfolding all_below link_at row_after stopped
   station_stepped e {after} a = row_walked (s ∷ []) link stop refl e (sym (link_of-take (held s))) (ap (λ (t : Station). t ∷ []) a)
 
-  -- what the bench of a station by value answers is what `station_bench` has done
+  -- what the bench of a station by value answers is what the bench of the row of it alone has done,
+  pub station-done : let b = station_benched s link stop in BenchDone (s ∷ []) link stop b.answer (b.after ∷ [])
+  unfolding station_benched
+  station-done = record { answered = refl; left = single (bench_after (s ∷ []) link stop) (length_bench (s ∷ []) link stop) }
+    where
+      single : (l : List Station) → length l ≡ 1 → get_or l 0 no_station ∷ [] ≡ l
+      single [] e = absurd (omega arith)
+      single (x ∷ []) e = refl
+      single (x ∷ y ∷ l) e = absurd (omega arith)
+
+  -- and the other way round
   pub done-station :
       (answer : Told) (after : Station) → BenchDone (s ∷ []) link stop answer (after ∷ [])
       → let b = station_benched s link stop in (answer ≡ b.answer) × (after ≡ b.after)
   unfolding station_benched
   done-station answer after d = (d.answered, ap (λ l. get_or l 0 no_station) d.left)
+
+  -- a station that is refused stays
+  pub station_stays : let b = station_benched s link stop in eqb b.answer.number 0 ≡ false → s ≡ b.after
+  unfolding station_benched
+  station_stays e = ap (λ l. get_or l 0 no_station) (bench_stays (s ∷ []) link stop e)

@@ -1,5 +1,5 @@
 -- What is written is read back: bytes that begin with those of a state are read as that state. What `Typed` asks holds of every state that a list of
--- calls comes to (`typed-fresh` and `typed-next` of `token_rule_c`).
+-- calls comes to (`typed-fitting` of `token_rule_c`).
 use Rattle.std.specs.Prelude.{List, ◌++◌, ◌≡◌, ℕ, ◌+◌, length}
 use Rattle.std.proofs.Common.{◌∙◌, arith, length-append}
 use Rattle.std.proofs.lemmas.Bool.{le-leb}

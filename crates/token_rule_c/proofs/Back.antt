@@ -1,7 +1,7 @@
 -- A call that is lent the bytes of a state, whatever follows them, is a call on that state, and leaves the bytes of the state that it answers, followed
 -- by the same. Assumes nothing.
-use Rattle.std.specs.Prelude.{Bool, true, false, List, ◌++◌, ◌≡◌, refl, ℕ, ℤ, drop, length}
-use Rattle.std.proofs.Common.{⊎_elim, sym, ap, ◌∙◌, eqb-true}
+use Rattle.std.specs.Prelude.{Bool, true, false, List, ◌++◌, ◌≡◌, refl, ℕ, ◌≤◌, ℤ, drop, length}
+use Rattle.std.proofs.Common.{⊎_elim, sym, ap, ◌∙◌, eqb-true, le-ltb}
 use Rattle.std.proofs.Math.Dec.{eqb, ltb}
 use Rattle.std.proofs.Math.Seq.{drop-append_seam}
 use Rattle.laws.specs.Laws.Cases.{true_or_false}
@@ -69,6 +69,22 @@ module _ (s : State) (typed : Typed s) (rest : List ℕ) where
             (λ (q : eqb steps 0 ≡ false). rw q (stored_over s answer.state rest))
             (true_or_false (eqb steps 0)),
       )
+
+-- a call for a fresh state that is lent at least as many bytes as a state has answers the number of the fresh state, refused or not, and leaves
+-- the bytes of the state that it answers, which are zeros where the image is refused, and what followed them
+pub fresh_bytes :
+    {img old : List ℕ} {number : ℕ} {left : List ℕ} → state_length ≤ length old → FreshCall img old number left
+    → (number ≡ (fresh_answer img).number) × (left ≡ state_bytes (fresh_answer img).state ++ drop state_length old)
+unfolding fresh_number fresh_over fresh_answer state_over
+fresh_bytes {img} {old} h d =
+    let room = le-ltb (length old) state_length h in (
+      d.numbered
+          ∙ ⊎_elim
+          (λ (q : eqb (judge img) 0 ≡ true). rw (q, room) (sym (eqb-true (judge img) 0 q)))
+          (λ (q : eqb (judge img) 0 ≡ false). rw q)
+          (true_or_false (eqb (judge img) 0)),
+      d.over ∙ rw room,
+    )
 
 -- a call for a fresh state that answers 0 leaves the bytes of the fresh state, and what followed them
 pub fresh-back :

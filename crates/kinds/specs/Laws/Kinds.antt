@@ -2,13 +2,13 @@
 use Rattle.std.specs.Prelude.{true, ◌⊎◌, ◌≡◌, refl, map, ℕ, suc, ◌+◌, ◌/◌, ◌%◌, ◌<◌, ◌≤◌, leb, ℤ, pos, negsuc, ◌+ℤ◌, get_or}
 use Rattle.std.specs.Int.{int_max}
 use Rattle.std.proofs.lemmas.Int.{ints, clamps}
-use Rattle.std.proofs.Common.{inl, inr, ⊎_elim, ap, arith, ltb-true, leb-true, le-ltb}
+use Rattle.std.proofs.Common.{inl, inr, ⊎_elim, ap, arith, leb-true}
 use Rattle.std.proofs.Math.ListN.{get_or-eq_default, get_or-map}
 use Rattle.laws.specs.Below.{all_below}
 use Rattle.laws.specs.Laws.Below.{all_at}
 use Rattle.laws.specs.Laws.Cases.{lt-or-ge}
 use Rattle.laws.specs.Laws.Signed.{sub_below}
-use Rattle.kinds.specs.Kinds.{halve, larger, Line, no_line, kinds, last_kind, no_kind, inputs, exact}
+use Rattle.kinds.specs.Kinds.{halve, larger, Line, no_line, kinds, last_kind, inputs}
 
 -- halving rounds down: a is twice its half, or that and 1
 pub halve_down : (a : ℤ) → (a ≡ halve a +ℤ halve a) ⊎ (a ≡ (halve a +ℤ halve a) +ℤ pos 1)
@@ -30,6 +30,11 @@ larger-int_max a b = grind (arith, ints, clamps)
 none_past : (k : ℕ) → last_kind < k → get_or kinds k no_line ≡ no_line
 none_past k h = get_or-eq_default kinds no_line (omega (arith, h))
 
+-- so a number past the table has no inputs
+pub inputs-none : (k : ℕ) → last_kind < k → inputs k ≡ 0
+unfolding inputs
+inputs-none k h = rw (none_past k h)
+
 -- no kind has more than three inputs
 few : all_below (λ k. leb (inputs k) 3) (suc last_kind) ≡ true
 unfolding all_below inputs
@@ -40,7 +45,7 @@ unfolding inputs
 inputs_few k =
     ⊎_elim
     (λ (h : k < suc last_kind). leb-true (inputs k) 3 (all_at (λ i. leb (inputs i) 3) k (suc last_kind) h few))
-    (λ (h : suc last_kind ≤ k). rw (none_past k h) (omega arith))
+    (λ (h : suc last_kind ≤ k). rw (inputs-none k h) (omega arith))
     (lt-or-ge k (suc last_kind))
 
 -- the inputs are a column of the table, 0 past its end
